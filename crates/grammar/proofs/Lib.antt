@@ -1,0 +1,12 @@
+pub mod Heads
+pub mod Filling
+pub mod Finding
+pub mod Blocks
+pub mod Goals
+pub mod Splitting
+pub mod Rewriting
+pub mod Marking
+pub mod Assembling
+pub mod Held
+pub mod Putting
+pub mod Pieces

@@ -1,0 +1,10 @@
+pub mod Refusals
+pub mod Holding
+pub mod Meaning
+pub mod Finding
+pub mod Heads
+pub mod Readings
+pub mod Marking
+pub mod Reading
+pub mod Questions
+pub mod Writing

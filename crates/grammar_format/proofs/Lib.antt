@@ -1,0 +1,12 @@
+pub mod Listed
+pub mod Numbers
+pub mod Cleaning
+pub mod Rules
+pub mod Spellings
+pub mod Reading
+pub mod Encoding
+pub mod Keeps
+pub mod Decoding
+pub mod Sizes
+pub mod Props
+pub mod Theorems

@@ -1,0 +1,15 @@
+pub mod Search
+pub mod Derivations
+pub mod Productivity
+pub mod Props
+pub mod States
+pub mod Soundness
+pub mod Completeness
+pub mod Judge
+pub mod Viability
+pub mod Prefix
+pub mod Forest
+pub mod Least
+pub mod Rows
+pub mod Example
+pub mod Theorems
