@@ -21,7 +21,7 @@ use Rattle.grammar_format.proofs.Theorems.{sufficiency}
 use Rattle.grammar.specs.Finding.{NoneOf, FirstOf}
 use Rattle.grammar.specs.Holding.{rule-at, rule-block, rewriting, spelling-at, letters, Fitted, Laid, grammar-from, sheet-from, Held}
 use Rattle.grammar.specs.Heads.{Headed}
-use Rattle.grammar.specs.Readings.{Repeated, RulesRead, SpellingsRead, PartsRead}
+use Rattle.grammar.specs.Progress.{Repeated, RulesRead, SpellingsRead, PartsRead}
 use Rattle.grammar.specs.Refusals.{FirstFault, Refused}
 use Rattle.grammar.specs.Marking.{Ranged}
 use Rattle.grammar.specs.declared.fault.GrammarFault.{GrammarFault}

@@ -9,7 +9,7 @@ use Rattle.std.proofs.shelf.Lists.{take-more-set, take-more, take-all, getD-dro
 use Rattle.grammar_format.specs.Fields.{terminals, nonterminals, symbols, rules, block, left, right-length, right}
 use Rattle.grammar_format.specs.Breaches.{IllFormed, unknown, unfilled, Breach, rule-form}
 use Rattle.grammar_format.proofs.Cleaning.{formed-fine}
-use Rattle.grammar.specs.Readings.{Stands, Strays}
+use Rattle.grammar.specs.Progress.{Stands, Strays}
 
 -- A byte that strays makes the rule ill-formed.
 pub strays : {T K : ℕ} (x : List ℕ) (d : ℕ) → d < 7 → Strays (right x d) d (right-length x) K → IllFormed T K x

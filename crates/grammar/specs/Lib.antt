@@ -3,8 +3,7 @@ pub mod Holding
 pub mod Meaning
 pub mod Finding
 pub mod Heads
-pub mod Readings
+pub mod Progress
 pub mod Marking
-pub mod Reading
 pub mod Questions
 pub mod Writing

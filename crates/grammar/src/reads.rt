@@ -1,8 +1,8 @@
 //! Reading a grammar sheet.
 ghost use mathlib.Core.Path.{_≡_};
 ghost use Rattle.std.specs.Results.{Cases};
-ghost use Rattle.grammar.specs.Readings.{PartsRead};
-ghost use Rattle.grammar.specs.Reading.{Reads};
+ghost use Rattle.grammar.specs.Progress.{PartsRead};
+ghost use Rattle.grammar.specs.Meaning.{Reads};
 ghost use Rattle.grammar.specs.Refusals.{FirstFault, Refused};
 use crate::fault::GrammarFault;
 use crate::goal::goal_misused;

@@ -5,7 +5,7 @@ ghost use lib.ListN.{length};
 ghost use Rattle.std.specs.Orderings.{When, Decides};
 ghost use Rattle.grammar.specs.Finding.{FirstOf};
 ghost use Rattle.grammar.specs.Holding.{spelling-at, letters as spelled, Fitted};
-ghost use Rattle.grammar.specs.Readings.{Repeated};
+ghost use Rattle.grammar.specs.Progress.{Repeated};
 use crate::spelling::Spelling;
 
 impl Spelling {

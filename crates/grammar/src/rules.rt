@@ -8,7 +8,7 @@ ghost use Rattle.std.specs.Results.{Cases};
 ghost use Rattle.grammar_format.specs.Breaches.{IllFormed};
 ghost use Rattle.grammar.specs.Heads.{Headed};
 ghost use Rattle.grammar.specs.Holding.{rule-block};
-ghost use Rattle.grammar.specs.Readings.{Stands, Strays, RulesRead};
+ghost use Rattle.grammar.specs.Progress.{Stands, Strays, RulesRead};
 ghost use Rattle.grammar.specs.Refusals.{FirstFault};
 use crate::fault::GrammarFault;
 use crate::header::Header;

@@ -10,7 +10,7 @@ ghost use Rattle.grammar_format.specs.Fields.{first-spelling, behind-spelling};
 ghost use Rattle.grammar_format.specs.Breaches.{IllSpelled, Clean};
 ghost use Rattle.grammar.specs.Heads.{Headed};
 ghost use Rattle.grammar.specs.Holding.{letters, Fitted};
-ghost use Rattle.grammar.specs.Readings.{SpellingsRead};
+ghost use Rattle.grammar.specs.Progress.{SpellingsRead};
 ghost use Rattle.grammar.specs.Refusals.{FirstFault};
 use crate::fault::GrammarFault;
 use crate::header::Header;

@@ -8,13 +8,13 @@
 use mathlib.Core.Path.{_≡_}
 use mathlib.Core.Logic.{_≢_, _⊎_}
 use mathlib.Core.List.{List}
-use Prim.Native.Nat.{ℕ, _+_, _≤_, _<_}
+use Prim.Native.Nat.{ℕ, _≤_, _<_}
 use lib.ListN.{length, getD}
 use Rattle.parsing.specs.Grammar.{Nonterminal, Productive}
 use Rattle.grammar_format.specs.Sheets.{rules-end}
 use Rattle.grammar_format.specs.Keeping.{Letter, AllDigits}
 use Rattle.grammar_format.specs.Fields.{number, terminals, nonterminals, rules, symbols, block, left, right-length, right}
-use Rattle.grammar_format.specs.Fields.{remains, spelling, first-spelling, grammar-of}
+use Rattle.grammar_format.specs.Fields.{remains, spelling, grammar-of}
 
 -- The left symbol is a nonterminal, the length is 0 to 7, the right symbols are symbols, and those past the length are 255.
 pub data IllFormed (T K : ℕ) (x : List ℕ) : Type 0 where

@@ -7,7 +7,7 @@
 --   sheet-of b      all of it as a sheet
 use mathlib.Core.List.{List, [], _∷_, _++_}
 use Prim.Native.Nat.{ℕ, zero, suc, _+_, _*_}
-use lib.ListN.{length, getD, take, drop}
+use lib.ListN.{getD, take, drop}
 use Rattle.parsing.specs.Grammar.{Grammar, Rule}
 use Rattle.grammar_format.specs.Sheets.{Sheet, rules-end}
 

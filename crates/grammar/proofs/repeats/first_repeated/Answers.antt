@@ -1,5 +1,5 @@
 use native.Mathlib.Omega.{arith}
-use Rattle.grammar.specs.Readings.{Repeated}
+use Rattle.grammar.specs.Progress.{Repeated}
 use Rattle.grammar.proofs.Finding.{none-more}
 use Rattle.grammar.proofs.repeats.first_repeated.Needs as need
 

@@ -1,5 +1,5 @@
 use Rattle.grammar.specs.Finding.{NoneOf}
-use Rattle.grammar.specs.Readings.{Repeated}
+use Rattle.grammar.specs.Progress.{Repeated}
 use Rattle.grammar.proofs.repeats.first_repeated.Given as given
 
 abbrev pub Inv-loop-t : given.InvT-loop-t

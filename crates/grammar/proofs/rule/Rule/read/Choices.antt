@@ -2,7 +2,7 @@ use mathlib.Core.Path.{_≡_}
 use Prim.Native.Nat.{ℕ, _<_}
 use lib.ListN.{length, take, drop}
 use Rattle.grammar_format.specs.Fields.{right, right-length}
-use Rattle.grammar.specs.Readings.{Stands}
+use Rattle.grammar.specs.Progress.{Stands}
 use Rattle.grammar.proofs.rule.Rule.read.Given as given
 
 abbrev pub Inv-loop-d : given.InvT-loop-d
