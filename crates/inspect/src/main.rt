@@ -1,4 +1,7 @@
 //! Shows what the grammar sheet `grammar.bin` of the current folder says, or why it is refused.
+#[cfg(test)]
+mod tests;
+
 use inspection::report;
 use std::fs;
 use std::io;
@@ -18,5 +21,9 @@ fn run(rt: &LibcRuntime) -> io::Result<()> {
 }
 
 fn main(rt: LibcRuntime) -> io::Result<()> {
-    rt.report(run(&rt))
+    let result = run(&rt);
+    if let Err(e) = &result {
+        eprintln!(rt, "inspect: grammar.bin: {e}")?;
+    }
+    result
 }

@@ -10,8 +10,6 @@ use Prim.Native.Nat.{ℕ, zero, suc, _+_}
 use lib.Chars.{codes}
 use lib.Dec.{ltb}
 use Rattle.std.specs.Written.{decimal}
-use Rattle.std.specs.declared.option.Option.{Option}
-use Rattle.std.specs.declared.option.Option.the-variants.{None, Some}
 use Rattle.parsing.specs.Grammar.{rule-count}
 use Rattle.grammar_format.specs.Sheets.{Sheet}
 use Rattle.inspection.specs.Names.{symbol-name}

@@ -74,15 +74,9 @@ impl fmt::Display for SymbolLines<'_> as SymbolLinesDisplay {
     ghost shown = { λ x. Some (lines (symbol-line (sheet (now (x .grammar)))) (x .from) (x .to - x .from)) };
 
     fn fmt<W: fmt::Write>(&self, f: &mut fmt::Formatter<W>) -> fmt::Result {
+        let grammar = self.grammar;
         for symbol in self.from..self.to {
-            writeln!(
-                f,
-                "{}",
-                SymbolLine {
-                    grammar: self.grammar,
-                    symbol
-                }
-            )?;
+            writeln!(f, "{}", SymbolLine { grammar, symbol })?;
         }
         Ok(())
     }
@@ -98,15 +92,9 @@ impl fmt::Display for RuleLines<'_> as RuleLinesDisplay {
     ghost shown = { λ x. Some (rule-lines (sheet (now (x .grammar)))) };
 
     fn fmt<W: fmt::Write>(&self, f: &mut fmt::Formatter<W>) -> fmt::Result {
-        for rule in 0..usize::from(self.grammar.rules()) {
-            writeln!(
-                f,
-                "{}",
-                RuleLine {
-                    grammar: self.grammar,
-                    rule
-                }
-            )?;
+        let grammar = self.grammar;
+        for rule in 0..usize::from(grammar.rules()) {
+            writeln!(f, "{}", RuleLine { grammar, rule })?;
         }
         Ok(())
     }

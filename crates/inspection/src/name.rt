@@ -10,10 +10,15 @@ use std::fmt;
 /// The name of a symbol.
 #[derive(Clone, Copy)]
 pub enum Name<'a> {
+    /// Terminal 0, which has no spelling.
     Amount,
+    /// Another terminal, by its spelling.
     Word(&'a str),
+    /// The first nonterminal.
     Goal,
+    /// The right symbol of rule 0.
     Start,
+    /// Any other nonterminal, by its number.
     Other(u8),
 }
 

@@ -1,5 +1,3 @@
-use mathlib.Core.Path.{_≡_}
-use Prim.Native.Nat.{_+_, _*_}
 use native.Mathlib.Omega.{arith}
 use Rattle.grammar_format.specs.Fields.{number}
 use Rattle.inspection.proofs.fields.number.Needs as need

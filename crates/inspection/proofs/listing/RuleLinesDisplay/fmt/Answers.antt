@@ -6,7 +6,7 @@ use lib.Chars.{codes}
 use lib.Dec.{ltb}
 use Rattle.std.specs.declared.result.Result.the-variants.{Ok}
 use Rattle.parsing.specs.Grammar.{rule-count}
-use Rattle.grammar.specs.Meaning.{sheet, meaning}
+use Rattle.grammar.specs.Meaning.{sheet}
 use Rattle.inspection.specs.Listings.{rule-line}
 use Rattle.inspection.proofs.Printing.{prints-if}
 use Rattle.inspection.proofs.Turns.{lines-none, lines-more, lines-all}

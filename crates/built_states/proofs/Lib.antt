@@ -1,0 +1,3 @@
+pub mod Grammars
+pub mod Growing
+pub mod Answering

@@ -1,0 +1,7 @@
+pub mod Bits
+pub mod Rows
+pub mod Grammars
+pub mod Nexts
+pub mod Passes
+pub mod Completing
+pub mod Stepping

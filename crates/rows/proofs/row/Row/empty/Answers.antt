@@ -1,0 +1,5 @@
+use Rattle.rows.proofs.Rows.{none-in}
+use Rattle.rows.proofs.row.Row.empty.Needs as need
+
+pub returns : need.returns
+returns c = none-in
