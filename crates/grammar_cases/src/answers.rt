@@ -9,18 +9,18 @@ use std::test::*;
 /// The answer to a sheet.
 #[derive(Clone, Copy, PartialEq, Eq, Debug)]
 pub enum Answer {
-    /// It is read, or read and written again.
+    /// It is read and written: the room begins with the very bytes of the sheet, and stays as it was past them.
     Read,
-    /// It is refused by the grammar with this number, at this place.
+    /// The grammar refuses it with this number, at this place, and the room stays as it was.
     Refused(u8, usize),
-    /// The room is refused, since so many bytes are needed.
+    /// The room is refused, since so many bytes are needed, and stays as it was.
     Short(usize),
-    /// It is refused otherwise.
+    /// Anything else.
     Strange,
 }
 
 impl Answer {
-    /// What a fault is shown as.
+    /// What the fault is shown as.
     fn of(fault: GrammarFault) -> Answer {
         match fault.refusal() {
             Refusal {
@@ -43,30 +43,57 @@ impl Answer {
 /// What a room holds before anything is written to it.
 const BLANK: u8 = 7;
 
-/// The answer to the sheet as it is read and written to the room. The room then begins with the sheet, or with nothing where something is
-/// refused, and is blank past it.
-pub fn rewritten(sheet: &[u8], room: &mut [u8]) -> Result<Answer, Fail> {
-    room.fill(BLANK);
-    let (written, answer) = match rewrite(sheet, room) {
-        Ok(count) => {
-            check_eq(count, sheet.len())?;
-            (sheet, Answer::Read)
-        }
-        Err(fault) => (&sheet[0..0], Answer::of(fault)),
-    };
-    check(room.starts_with(written))?;
-    for byte in room.iter().skip(written.len()) {
-        check_eq(*byte, BLANK)?;
+/// Whether the room begins with these bytes and is blank past them.
+fn holds(room: &[u8], bytes: &[u8]) -> bool {
+    let blank = [BLANK; 1200];
+    match room.get(bytes.len()..) {
+        Some(rest) => room.starts_with(bytes) && blank.starts_with(rest),
+        None => false,
     }
-    Ok(answer)
 }
 
-/// The sheet has the answer, as it is read and as it is written again.
-pub fn check_answer(sheet: &[u8], answer: Answer) -> Result<(), Fail> {
-    let read = match Grammar::read(sheet) {
-        Ok(_) => Answer::Read,
+/// The answer that a call to write the sheet to a blank room gave, by its result and by what the room holds now.
+fn answered(result: Result<usize, GrammarFault>, room: &[u8], sheet: &[u8]) -> Answer {
+    match result {
+        Ok(count) if count == sheet.len() && holds(room, sheet) => Answer::Read,
+        Err(fault) if holds(room, &[]) => Answer::of(fault),
+        _ => Answer::Strange,
+    }
+}
+
+/// The answer as the sheet is read, and its grammar is then written to a blank room.
+fn written(sheet: &[u8], room: &mut [u8]) -> Answer {
+    match Grammar::read(sheet) {
+        Ok(grammar) => {
+            let result = grammar.write(room);
+            answered(result, room, sheet)
+        }
         Err(fault) => Answer::of(fault),
-    };
-    check_eq(read, answer)?;
-    check_eq(rewritten(sheet, &mut [0; 1200])?, answer)
+    }
+}
+
+/// The answer as the sheet is rewritten to a blank room.
+fn rewritten(sheet: &[u8], room: &mut [u8]) -> Answer {
+    let result = rewrite(sheet, room);
+    answered(result, room, sheet)
+}
+
+/// The answer to the sheet in a room of so many bytes, at most 1200. It must be the same by `read` and `write` as by `rewrite`.
+pub fn answer_in(sheet: &[u8], length: usize) -> Answer {
+    if length > 1200 {
+        return Answer::Strange;
+    }
+    let mut room = [BLANK; 1200];
+    let answer = written(sheet, &mut room[0..length]);
+    let mut room = [BLANK; 1200];
+    if rewritten(sheet, &mut room[0..length]) == answer {
+        answer
+    } else {
+        Answer::Strange
+    }
+}
+
+/// The sheet has this answer in a room that suffices.
+pub fn check_answer(sheet: &[u8], answer: Answer) -> Result<(), Fail> {
+    check_eq(answer_in(sheet, 1200), answer)
 }

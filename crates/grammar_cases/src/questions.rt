@@ -14,8 +14,8 @@ static P_RULES: [Rule; 5] = [
     (0, 3, 1, [4, 255, 255, 255, 255, 255, 255, 255]),
     (1, 4, 2, [0, 1, 255, 255, 255, 255, 255, 255]),
     (2, 4, 3, [4, 2, 4, 255, 255, 255, 255, 255]),
-    (3, 255, 255, [255, 255, 255, 255, 255, 255, 255, 255]),
-    (64, 255, 255, [255, 255, 255, 255, 255, 255, 255, 255]),
+    (3, 255, 255, [255; 8]),
+    (64, 255, 255, [255; 8]),
 ];
 
 static P_SPELLINGS: [Spelling; 5] = [
@@ -30,14 +30,9 @@ static Q_RULES: [Rule; 6] = [
     (0, 2, 1, [3, 255, 255, 255, 255, 255, 255, 255]),
     (1, 3, 2, [3, 3, 255, 255, 255, 255, 255, 255]),
     (2, 3, 1, [1, 255, 255, 255, 255, 255, 255, 255]),
-    (3, 3, 0, [255, 255, 255, 255, 255, 255, 255, 255]),
-    (4, 255, 255, [255, 255, 255, 255, 255, 255, 255, 255]),
-    (
-        usize::MAX,
-        255,
-        255,
-        [255, 255, 255, 255, 255, 255, 255, 255],
-    ),
+    (3, 3, 0, [255; 8]),
+    (4, 255, 255, [255; 8]),
+    (usize::MAX, 255, 255, [255; 8]),
 ];
 
 static Q_SPELLINGS: [Spelling; 4] = [
@@ -47,7 +42,32 @@ static Q_SPELLINGS: [Spelling; 4] = [
     (usize::MAX, None),
 ];
 
-/// The sheet is read, and the grammar has these counts of terminals, nonterminals and rules, these rules and these spellings.
+/// What the grammar answers about a rule.
+fn rule_of(grammar: &Grammar, rule: usize) -> Rule {
+    let mut right = [0; 8];
+    for place in 0..8 {
+        right[place] = grammar.right(rule, place);
+    }
+    (rule, grammar.left(rule), grammar.length(rule), right)
+}
+
+/// The grammar has these rules.
+fn check_rules(grammar: &Grammar, rules: &[Rule]) -> Result<(), Fail> {
+    for rule in rules {
+        check_eq(rule_of(grammar, rule.0), *rule)?;
+    }
+    Ok(())
+}
+
+/// The grammar has these spellings.
+fn check_spellings(grammar: &Grammar, spellings: &[Spelling]) -> Result<(), Fail> {
+    for spelling in spellings {
+        check_eq((spelling.0, grammar.spelling(spelling.0)), *spelling)?;
+    }
+    Ok(())
+}
+
+/// The sheet is read as a grammar with these counts of terminals, nonterminals and rules, these rules and these spellings.
 fn check_grammar(
     sheet: &[u8],
     counts: (u8, u8, u8),
@@ -57,24 +77,10 @@ fn check_grammar(
     let Ok(grammar) = Grammar::read(sheet) else {
         return Err(Fail::new("it is refused"));
     };
-    check_eq(
-        (grammar.terminals(), grammar.nonterminals(), grammar.rules()),
-        counts,
-    )?;
-    for (rule, left, length, right) in rules {
-        check_eq(
-            (grammar.left(*rule), grammar.length(*rule)),
-            (*left, *length),
-        ).note(rule)?;
-        for place in 0..8 {
-            check_eq(grammar.right(*rule, place), right[place]).note(rule)?;
-        }
-        check_eq(grammar.right(*rule, usize::MAX), 255).note(rule)?;
-    }
-    for (terminal, spelling) in spellings {
-        check_eq(grammar.spelling(*terminal), *spelling).note(terminal)?;
-    }
-    check_eq(grammar.sheet_len(), sheet.len())
+    let told = (grammar.terminals(), grammar.nonterminals(), grammar.rules());
+    check_eq((told, grammar.sheet_len()), (counts, sheet.len()))?;
+    check_rules(&grammar, rules)?;
+    check_spellings(&grammar, spellings)
 }
 
 #[test]

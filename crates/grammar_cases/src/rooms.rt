@@ -2,21 +2,20 @@
 use crate::answers::Answer::*;
 use crate::answers::AnswerDebug;
 use crate::answers::AnswerPartialEq;
-use crate::answers::rewritten;
+use crate::answers::answer_in;
 use crate::sheets::P;
 use crate::sheets::Q;
 use std::test::*;
 
-/// The sheet is written to rooms of as many bytes as it has and more, and to no shorter one.
+/// The sheet is written to a room of as many bytes as it has and to longer ones, and to no shorter one.
 fn check_rooms(sheet: &[u8]) -> Result<(), Fail> {
-    for length in 0..64 {
-        let mut room = [0; 64];
+    for length in 0..100 {
         let answer = if length < sheet.len() {
             Short(sheet.len())
         } else {
             Read
         };
-        check_eq(rewritten(sheet, &mut room[0..length])?, answer).note(length)?;
+        check_eq(answer_in(sheet, length), answer).note(length)?;
     }
     Ok(())
 }

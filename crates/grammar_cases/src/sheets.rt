@@ -27,17 +27,20 @@ pub static Q: [u8; 53] = *b"\
 pub struct Draft {
     bytes: [u8; 1200],
     length: usize,
+    rules: u8,
 }
 
 impl Draft {
-    /// A header without numbers.
+    /// Room for a header, and nothing else yet.
     pub fn new() -> Draft {
         Draft {
             bytes: [0; 1200],
             length: 12,
+            rules: 0,
         }
     }
 
+    /// Adds a byte.
     fn add(&mut self, byte: u8) {
         if self.length < 1200 {
             self.bytes[self.length] = byte;
@@ -47,6 +50,7 @@ impl Draft {
 
     /// Adds a rule, by its left symbol and its right side.
     pub fn add_rule(&mut self, left: u8, right: &[u8]) {
+        self.rules = self.rules.wrapping_add(1);
         self.add(left);
         self.add((right.len() % 256) as u8);
         for place in 0..7 {
@@ -62,26 +66,18 @@ impl Draft {
         }
     }
 
-    /// The sheet, with these counts of terminals, nonterminals and rules in its header.
-    pub fn sheet(&mut self, terminals: u8, nonterminals: u8, rules: u8) -> &[u8] {
-        let end = 12 + 9 * u16::from(rules);
-        let [high, low] = end.to_be_bytes();
-        let [long, short] = ((self.length % 65536) as u16).to_be_bytes();
-        let header = [
-            long,
-            short,
-            0,
-            terminals,
-            0,
-            nonterminals,
-            0,
-            rules,
-            0,
-            12,
-            high,
-            low,
-        ];
-        self.bytes[0..12].copy_from_slice(&header);
-        self.bytes.get(0..self.length).unwrap_or(&[])
+    /// The sheet, whose header tells of so many terminals and nonterminals, and for the rest of what is there.
+    pub fn sheet(&mut self, terminals: u8, nonterminals: u8) -> &[u8] {
+        let [length_high, length_low] = ((self.length % 65536) as u16).to_be_bytes();
+        let [end_high, end_low] = (12 + 9 * u16::from(self.rules)).to_be_bytes();
+        self.bytes[0] = length_high;
+        self.bytes[1] = length_low;
+        self.bytes[3] = terminals;
+        self.bytes[5] = nonterminals;
+        self.bytes[7] = self.rules;
+        self.bytes[9] = 12;
+        self.bytes[10] = end_high;
+        self.bytes[11] = end_low;
+        &self.bytes[0..self.length.min(1200)]
     }
 }

@@ -1,104 +1,91 @@
 //! The spellings: their form, refused with 15, and no two alike, refused with 16.
+use crate::answers::Answer;
 use crate::answers::Answer::*;
+use crate::answers::check_answer;
 use crate::tables::Changed;
 use crate::tables::Spelled;
 use crate::tables::check_changed;
 use crate::tables::check_spelled;
+use crate::tables::spelled;
 use std::test::*;
 
-static FORMS: [Spelled; 37] = [
-    ("the amount alone", 1, &[b""], Read),
-    ("the amount has a byte", 1, &[b"a"], Refused(15, 0)),
-    ("nothing", 2, &[b"", b""], Refused(15, 1)),
-    ("one byte", 2, &[b"", b"a"], Read),
-    ("twelve bytes", 2, &[b"", b"marshmallows"], Read),
-    (
-        "thirteen bytes",
-        2,
-        &[b"", b"blackcurrants"],
-        Refused(15, 1),
-    ),
-    ("byte 0", 2, &[b"", b"\x00a"], Refused(15, 1)),
-    ("byte 9", 2, &[b"", b"a\ta"], Refused(15, 1)),
-    ("byte 10", 2, &[b"", b"a\n"], Refused(15, 1)),
-    ("byte 32", 2, &[b"", b"a a"], Refused(15, 1)),
-    ("byte 32 first", 2, &[b"", b" a"], Refused(15, 1)),
-    ("byte 33", 2, &[b"", b"!"], Read),
-    ("byte 34", 2, &[b"", b"\""], Read),
-    ("byte 35", 2, &[b"", b"#"], Refused(15, 1)),
-    ("byte 35 last", 2, &[b"", b"a#"], Refused(15, 1)),
-    ("byte 36", 2, &[b"", b"$"], Read),
-    ("byte 126", 2, &[b"", b"~"], Read),
-    ("byte 127", 2, &[b"", b"a\x7f"], Refused(15, 1)),
-    ("byte 128", 2, &[b"", b"\x80a"], Refused(15, 1)),
-    ("byte 255", 2, &[b"", b"\xff"], Refused(15, 1)),
-    ("a digit", 2, &[b"", b"0"], Refused(15, 1)),
-    ("all digits", 2, &[b"", b"12"], Refused(15, 1)),
-    ("twelve digits", 2, &[b"", b"012345678999"], Refused(15, 1)),
-    ("a digit first", 2, &[b"", b"1a"], Read),
-    ("a digit last", 2, &[b"", b"a1"], Read),
-    ("a digit and a dot", 2, &[b"", b"1."], Read),
-    ("next to the digits", 2, &[b"", b"/:"], Read),
-    ("no spelling", 3, &[], Refused(15, 0)),
-    ("the last one lacks", 3, &[b"", b"a"], Refused(15, 2)),
-    ("one is left over", 2, &[b"", b"a", b"b"], Refused(15, 2)),
-    ("a 0 is left over", 2, &[b"", b"a", b""], Refused(15, 2)),
-    ("amount first", 3, &[b"a", b"", b"c"], Refused(15, 0)),
-    ("lowest first", 3, &[b"", b"12", b"#"], Refused(15, 1)),
-    ("form before the end", 2, &[b"", b"#", b"a"], Refused(15, 1)),
-    (
-        "form before repeats",
-        4,
-        &[b"", b"a", b"a", b"12"],
-        Refused(15, 3),
-    ),
-    (
-        "the end before repeats",
-        3,
-        &[b"", b"a", b"a", b""],
-        Refused(15, 3),
-    ),
-    (
-        "the end before repeats",
-        4,
-        &[b"", b"a", b"a"],
-        Refused(15, 3),
-    ),
+/// The spelling of terminal 1, and the answer to the sheet.
+static FORMS: [(&str, Answer); 29] = [
+    ("", Refused(15, 1)),
+    ("a", Read),
+    ("marshmallows", Read),
+    ("blackcurrants", Refused(15, 1)),
+    ("\x00", Refused(15, 1)),
+    ("\t", Refused(15, 1)),
+    ("\n", Refused(15, 1)),
+    ("\x1f", Refused(15, 1)),
+    (" ", Refused(15, 1)),
+    ("te a", Refused(15, 1)),
+    ("tea ", Refused(15, 1)),
+    ("!", Read),
+    ("\"", Read),
+    ("#", Refused(15, 1)),
+    ("#tea", Refused(15, 1)),
+    ("tea#", Refused(15, 1)),
+    ("$", Read),
+    ("~", Read),
+    ("\x7f", Refused(15, 1)),
+    ("té", Refused(15, 1)),
+    ("€", Refused(15, 1)),
+    ("0", Refused(15, 1)),
+    ("12", Refused(15, 1)),
+    ("999999999999", Refused(15, 1)),
+    ("1a", Read),
+    ("a1", Read),
+    ("1.5", Read),
+    ("/", Read),
+    (":", Read),
 ];
 
-static CUTS: [Changed; 6] = [
-    ("the amount takes one", &[(39, 1)], Refused(15, 0)),
-    ("the amount takes all", &[(39, 8)], Refused(15, 0)),
-    ("the first is too long", &[(40, 8)], Refused(15, 1)),
-    ("the last is too long", &[(44, 4)], Refused(15, 2)),
-    ("a byte is left over", &[(44, 2)], Refused(15, 3)),
-    ("the last begins too late", &[(40, 7)], Refused(15, 1)),
+static ENDS: [Spelled; 9] = [
+    ("the amount alone", 1, &[""], Read),
+    ("the amount has a byte", 1, &["a"], Refused(15, 0)),
+    ("the rules end the sheet", 3, &[], Refused(15, 0)),
+    ("the last one lacks", 3, &["", "a"], Refused(15, 2)),
+    ("one is left over", 2, &["", "a", "b"], Refused(15, 2)),
+    ("a 0 is left over", 2, &["", "a", ""], Refused(15, 2)),
+    ("amount before 1", 2, &["a", "#"], Refused(15, 0)),
+    ("1 before 2", 3, &["", "12", "#"], Refused(15, 1)),
+    ("form before the end", 2, &["", "#", "a"], Refused(15, 1)),
 ];
 
-static REPEATS: [Spelled; 8] = [
-    ("twice", 3, &[b"", b"tea", b"tea"], Refused(16, 2)),
-    (
-        "twice, far apart",
-        4,
-        &[b"", b"a", b"b", b"a"],
-        Refused(16, 3),
-    ),
-    ("three times", 4, &[b"", b"a", b"a", b"a"], Refused(16, 2)),
-    (
-        "the lowest later one",
-        5,
-        &[b"", b"a", b"b", b"b", b"a"],
-        Refused(16, 3),
-    ),
-    ("capitals differ", 3, &[b"", b"tea", b"Tea"], Read),
-    ("one begins another", 3, &[b"", b"tea", b"teas"], Read),
-    ("another length", 3, &[b"", b"aa", b"a"], Read),
-    ("other order", 3, &[b"", b"ab", b"ba"], Read),
+static CUTS: [Changed; 5] = [
+    ("the amount has length 1", &[(39, 1)], Refused(15, 0)),
+    ("`tea` runs past the end", &[(40, 8)], Refused(15, 1)),
+    ("`tea` runs up to the end", &[(40, 7)], Refused(15, 1)),
+    ("`and` runs past the end", &[(44, 4)], Refused(15, 2)),
+    ("`and` leaves a byte over", &[(44, 2)], Refused(15, 3)),
+];
+
+static REPEATS: [Spelled; 10] = [
+    ("twice", 3, &["", "tea", "tea"], Refused(16, 2)),
+    ("twice apart", 4, &["", "a", "b", "a"], Refused(16, 3)),
+    ("thrice", 4, &["", "a", "a", "a"], Refused(16, 2)),
+    ("two, crossed", 5, &["", "a", "b", "b", "a"], Refused(16, 3)),
+    ("a capital", 3, &["", "tea", "Tea"], Read),
+    ("one more letter", 3, &["", "tea", "teas"], Read),
+    ("one letter less", 3, &["", "tea", "te"], Read),
+    ("the same letters", 3, &["", "tea", "eat"], Read),
+    ("form before", 4, &["", "a", "a", "12"], Refused(15, 3)),
+    ("end before", 3, &["", "a", "a", ""], Refused(15, 3)),
 ];
 
 #[test]
-fn spellings_are_visible_bytes_and_not_all_digits() -> Result<(), Fail> {
-    check_spelled(&FORMS)?;
+fn spellings_have_one_to_twelve_visible_bytes_and_not_all_digits() -> Result<(), Fail> {
+    for (spelling, answer) in &FORMS {
+        check_answer(spelled(2, &["", *spelling]).sheet(2, 2), *answer).note(spelling)?;
+    }
+    Ok(())
+}
+
+#[test]
+fn spellings_go_by_terminal_and_end_with_the_sheet() -> Result<(), Fail> {
+    check_spelled(&ENDS)?;
     check_changed(&CUTS)
 }
 

@@ -12,16 +12,42 @@ pub type Changed = (&'static str, &'static [(usize, u8)], Answer);
 pub type Ruled = (&'static str, u8, &'static [(u8, &'static [u8])], Answer);
 
 /// The sheet has so many terminals, the goal, one more nonterminal, which is an amount, and these spellings.
-pub type Spelled = (&'static str, u8, &'static [&'static [u8]], Answer);
+pub type Spelled = (&'static str, u8, &'static [&'static str], Answer);
 
+/// The bytes of a `Changed` sheet; zeros, which are no sheet, where an offset lies outside.
 fn changed(changes: &[(usize, u8)]) -> [u8; 48] {
     let mut sheet = P;
     for (offset, byte) in changes {
-        if *offset < 48 {
-            sheet[*offset] = *byte;
+        if *offset >= 48 {
+            return [0; 48];
         }
+        sheet[*offset] = *byte;
     }
     sheet
+}
+
+/// The draft of a `Ruled` sheet.
+fn ruled(rules: &[(u8, &[u8])]) -> Draft {
+    let mut draft = Draft::new();
+    for (left, right) in rules {
+        draft.add_rule(*left, right);
+    }
+    draft.add_spelling(b"");
+    draft.add_spelling(b"tea");
+    draft.add_spelling(b"and");
+    draft
+}
+
+/// The draft of a `Spelled` sheet.
+pub fn spelled(terminals: u8, spellings: &[&str]) -> Draft {
+    let start = terminals.wrapping_add(1);
+    let mut draft = Draft::new();
+    draft.add_rule(terminals, &[start]);
+    draft.add_rule(start, &[0]);
+    for spelling in spellings {
+        draft.add_spelling(spelling.as_bytes());
+    }
+    draft
 }
 
 /// Each of these sheets has its answer.
@@ -35,15 +61,7 @@ pub fn check_changed(cases: &[Changed]) -> Result<(), Fail> {
 /// Each of these sheets has its answer.
 pub fn check_ruled(cases: &[Ruled]) -> Result<(), Fail> {
     for (what, nonterminals, rules, answer) in cases {
-        let mut draft = Draft::new();
-        for (left, right) in *rules {
-            draft.add_rule(*left, right);
-        }
-        draft.add_spelling(b"");
-        draft.add_spelling(b"tea");
-        draft.add_spelling(b"and");
-        let count = (rules.len() % 256) as u8;
-        check_answer(draft.sheet(3, *nonterminals, count), *answer).note(what)?;
+        check_answer(ruled(rules).sheet(3, *nonterminals), *answer).note(what)?;
     }
     Ok(())
 }
@@ -51,14 +69,7 @@ pub fn check_ruled(cases: &[Ruled]) -> Result<(), Fail> {
 /// Each of these sheets has its answer.
 pub fn check_spelled(cases: &[Spelled]) -> Result<(), Fail> {
     for (what, terminals, spellings, answer) in cases {
-        let start = terminals.wrapping_add(1);
-        let mut draft = Draft::new();
-        draft.add_rule(*terminals, &[start]);
-        draft.add_rule(start, &[0]);
-        for spelling in *spellings {
-            draft.add_spelling(spelling);
-        }
-        check_answer(draft.sheet(*terminals, 2, 2), *answer).note(what)?;
+        check_answer(spelled(*terminals, spellings).sheet(*terminals, 2), *answer).note(what)?;
     }
     Ok(())
 }
