@@ -1,4 +1,6 @@
 //! Takes the words of `words.bin`, a terminal in each byte, over the grammar sheet `grammar.bin`, and shows how many links they have.
+#![tactic(auto)]
+
 use built_states::BuiltStates;
 use grammar::Grammar;
 use links::Links;

@@ -1,4 +1,6 @@
 //! Builds, writes and checks the states of a grammar, up to a step that an argument names: `read`, `build`, `write` or `check`. For measurements.
+#![tactic(auto)]
+
 use anyhow::anyhow;
 use built_states::BuiltStates;
 use grammar::Grammar;

@@ -1,4 +1,6 @@
 //! States that are built from the grammar itself, in the order in which the walk over their table meets them.
+#![tactic(auto)]
+
 mod building;
 mod builds;
 mod built;

@@ -1,4 +1,6 @@
 //! Grammar sheets: read into a `Grammar` that keeps all the rules while it exists, questioned, and written back byte for byte.
+#![tactic(auto)]
+
 mod fault;
 mod goal;
 mod grammar;

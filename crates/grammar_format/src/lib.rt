@@ -1,4 +1,6 @@
 //! The format of grammar sheets: what the bytes say, which rules they keep, and which refusal comes first. Each function's contract is a theorem.
+#![tactic(auto)]
+
 ghost use Rattle.grammar_format.specs.Statements.{Sufficiency, Necessity, Uniqueness};
 
 /// Bytes to which no row of the refusals applies are those of a sheet that keeps the rules.

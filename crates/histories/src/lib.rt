@@ -1,5 +1,7 @@
 //! Histories of readings: what each call answers and leaves, which words a history keeps, and the law on every history, as theorems
 //! that functions carry as their contracts.
+#![tactic(auto)]
+
 ghost use Rattle.histories.specs.Statements.{Tidiness, Determinacy, Lawfulness};
 
 /// What occurs in a derivation lies within the words, and is never the goal or its rule.

@@ -1,4 +1,6 @@
 //! Shows what the grammar sheet `grammar.bin` of the current folder says, or why it is refused.
+#![tactic(auto)]
+
 #[cfg(test)]
 mod tests;
 

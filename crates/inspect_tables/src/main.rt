@@ -1,5 +1,7 @@
 //! Shows what the grammar sheet `grammar.bin` and the table sheet `table.bin` of the current folder say, or why they are refused. Without a
 //! table sheet it shows the states that it builds.
+#![tactic(auto)]
+
 #[cfg(test)]
 mod table_tests;
 

@@ -1,4 +1,6 @@
 //! What can be told of a grammar sheet in words: the report that `inspect` prints, and the parts that it is made of.
+#![tactic(auto)]
+
 mod explanation;
 mod fields;
 mod listing;

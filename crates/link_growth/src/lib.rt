@@ -1,4 +1,6 @@
 //! The links of a generalised LR reading, and the theory of lists of links that grow by the word rule and the reduction rule.
+#![tactic(auto)]
+
 ghost use Rattle.link_growth.specs.Counting.{Counting};
 
 /// A link of the graph-structured stack: the state at its place stands on the state below, at the place below.

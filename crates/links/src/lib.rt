@@ -1,4 +1,6 @@
 //! The links of a reading, as a table that is closed place by place under the word rule and the reduction rule.
+#![tactic(auto)]
+
 mod adding;
 mod asking;
 mod cells;

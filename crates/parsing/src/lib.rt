@@ -1,4 +1,6 @@
 //! The theory of generalised LR parsing over LR(0) states: definitions, and theorems that functions carry as their contracts.
+#![tactic(auto)]
+
 ghost use Rattle.parsing.specs.Statements.{Productivity, Soundness, Entering, Completeness, Judgement, Viability, ViablePrefix};
 ghost use Rattle.parsing.specs.Statements.{Stability, Forest, Leastness, RowsByBits, Witness};
 

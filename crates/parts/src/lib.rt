@@ -1,4 +1,6 @@
 //! The parts of a node, and its alternatives: found by asking which symbols fit between which places.
+#![tactic(auto)]
+
 mod alternatives;
 mod fits;
 mod marks;

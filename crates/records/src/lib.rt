@@ -1,4 +1,6 @@
 //! The records of a forest: nodes and alternatives, with their orders.
+#![tactic(auto)]
+
 mod alternative;
 mod node;
 

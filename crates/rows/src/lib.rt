@@ -1,4 +1,6 @@
 //! Rows of items: the row of an LR(0) state as 64 bytes, completed and stepped.
+#![tactic(auto)]
+
 mod complete;
 mod next;
 mod row;

@@ -1,4 +1,5 @@
 //! Sheets to test with: the bytes of small grammars and of a table.
+#![tactic(auto)]
 
 /// The grammar sheet of P: the header from 0, the rules from 12, 21 and 30, and the spellings from 39, 40 and 44. The terminals are 0, the
 /// amount, 1, `tea`, and 2, `and`; 3 is the goal, and 4 is an amount and `tea`, or two of 4 with `and` between them.

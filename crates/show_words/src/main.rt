@@ -1,5 +1,7 @@
 //! Shows the words of a text that is read from standard input, by the grammar sheet `grammar.bin` of the current folder: a line for each, then the
 //! end or the refusal.
+#![tactic(auto)]
+
 use std::io::{ErrorKind, Read};
 use std::{fs, io};
 use word_listing::report_words;

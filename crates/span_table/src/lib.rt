@@ -1,4 +1,6 @@
 //! Which symbols fit between which places, looked up in one table.
+#![tactic(auto)]
+
 mod fill;
 mod table;
 

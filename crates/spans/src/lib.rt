@@ -1,4 +1,6 @@
 //! Which symbols span which words, and why a gathering need only ask that.
+#![tactic(auto)]
+
 ghost use Rattle.spans.specs.Statements.{SpansTell, SpansJudge, MetForest};
 
 /// Over the links of a sentence, words and spans tell what a gathering wants.

@@ -1,4 +1,6 @@
 //! All nodes that are met from the top, and all their alternatives.
+#![tactic(auto)]
+
 mod alternatives;
 mod find;
 mod nodes;

@@ -1,4 +1,6 @@
 //! The faults of table sheets in plain words.
+#![tactic(auto)]
+
 mod explanation;
 mod fields;
 

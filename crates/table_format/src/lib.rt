@@ -1,4 +1,6 @@
 //! Tables of LR(0) states and their sheets: definitions, and theorems that functions carry as their contracts.
+#![tactic(auto)]
+
 ghost use Rattle.table_format.specs.Statements.{Exactness, Determinacy, Lawfulness, Counting};
 ghost use Rattle.table_format.specs.Statements.{SheetExactness, SheetDeterminacy, Writing, Reading, Witness};
 

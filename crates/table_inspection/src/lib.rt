@@ -1,4 +1,6 @@
 //! What is told of a table sheet: the report that `inspect` prints of it, and of the grammar sheet that it is for.
+#![tactic(auto)]
+
 mod reporting;
 
 pub use reporting::{full_report, table_report};

@@ -1,4 +1,6 @@
 //! Items, states and tables of states as text.
+#![tactic(auto)]
+
 mod item;
 mod row;
 mod state;

@@ -1,4 +1,6 @@
 //! Tables of LR(0) states that are supplied as sheets: checked against the grammar, and then a source of states.
+#![tactic(auto)]
+
 mod check;
 mod finding;
 mod form;

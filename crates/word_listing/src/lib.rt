@@ -1,4 +1,6 @@
 //! The words of a feed as text: a line for each word, and a last line for the end or the refusal.
+#![tactic(auto)]
+
 mod line;
 mod listing;
 mod report;

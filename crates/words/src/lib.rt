@@ -1,4 +1,6 @@
 //! Word feeds: what a reading takes its words from. The first two are the text of a recipe and a record of pressed keys.
+#![tactic(auto)]
+
 mod fault;
 mod feed;
 mod keys;

@@ -15,10 +15,10 @@ goal-misused-requires c r h =
 
 pub returns-in-Some : goal.returns-in-Some
 returns-in-Some c =
-    let head = c.in-ok-header.ensures in
+    let head = c.in_ok-header.ensures in
     let n = c.from.result - 0 in
     let e : n ≡ rules c.args.sheet.now = omega (arith, head.rules_are) in
-    goal_fault head c.in-ok-rules.ensures n e c.in-ok-header.header.terminals head.terminals_are c.in-Some.rule c.in-Some.ensures
+    goal_fault head c.in_ok-rules.ensures n e c.in_ok-header.header.terminals head.terminals_are c.in-Some.rule c.in-Some.ensures
 
 pub read-spellings-requires : goal.read-spellings-requires
 read-spellings-requires c =
@@ -43,12 +43,12 @@ returns-in-Some-first-repeated c =
 
 pub returns : goal.returns
 returns c =
-    let head = c.in-ok-header.ensures in
+    let head = c.in_ok-header.ensures in
     let n = c.from-2.result - 0 in
     let e : n ≡ terminals c.args.sheet.now = omega (arith, head.terminals_are) in
     record {
       headed = head;
-      rules_read = c.in-ok-rules.ensures;
-      spellings_read = c.in-ok-spellings.ensures;
-      clean = repeated_clean c.in-ok-spellings.ensures head.counted.few_terminals n e c.in-default-first-repeated.ensures;
+      rules_read = c.in_ok-rules.ensures;
+      spellings_read = c.in_ok-spellings.ensures;
+      clean = repeated_clean c.in_ok-spellings.ensures head.counted.few_terminals n e c.in_default-first_repeated.ensures;
     }

@@ -49,7 +49,7 @@ loop-t-preserved c =
       filled_more (λ (k : ℕ) (y : Spelling). letters y ≡ spelling b k) c.loop-t.spellings t c.hold.result _ room inv.2
           (c.hold.ensures.same ∙ spelled_is b t z w inv.3 read.1),
       rest_is b t z c.in-Some.remains.now inv.3 read.2,
-      clean_at t inv.4 (well_read b t z w inv.3 read.1 (omega arith) read.0 c.if-not-may-spell.ensures),
+      clean_at t inv.4 (well_read b t z w inv.3 read.1 (omega arith) read.0 c.if-not-may_spell.ensures),
     )
 
 pub returns-then-not-is-empty : goal.returns-then-not-is-empty
@@ -72,5 +72,5 @@ returns c =
       same = λ t h. c.loop-t.invariant.2 t (omega arith);
       clean = clean_row {n = 15} c.loop-t.t c.loop-t.invariant.4
           (none_over c.args.sheet.now c.loop-t.t c.loop-t.rest.now (omega arith) c.loop-t.invariant.3
-          (eqb-true (length c.loop-t.rest.now) 0 (sym c.if-not-is-empty.ensures)));
+          (eqb-true (length c.loop-t.rest.now) 0 (sym c.if-not-is_empty.ensures)));
     }

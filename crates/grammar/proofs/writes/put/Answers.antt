@@ -4,4 +4,4 @@ use Rattle.grammar.proofs.writes.put.Goals as goal
 
 pub returns : goal.returns
 returns c =
-    put_part c.args.room.now c.args.bytes.now c.copy-from-slice.new.self c.args.at _ c.copy-from-slice.ensures.after (omega arith)
+    put_part c.args.room.now c.args.bytes.now c.copy_from_slice.new.self c.args.at _ c.copy_from_slice.ensures.after (omega arith)

@@ -28,12 +28,12 @@ first-unproductive-requires c =
 
 pub returns-in-Some : goal.returns-in-Some
 returns-in-Some c =
-    let read = c.in-ok-header.ensures in
+    let read = c.in_ok-header.ensures in
     let head = read.headed in
     let n = c.from.result - 0 in
     let e : n ≡ rules c.args.sheet.now = omega (arith, head.rules_are) in
     refused c.args.sheet.now _
-    (unproductive_fault head read.rules_read n e c.in-ok-header.field-0.header.terminals c.in-ok-header.field-0.header.nonterminals
+    (unproductive_fault head read.rules_read n e c.in_ok-header.field-0.header.terminals c.in_ok-header.field-0.header.nonterminals
     head.terminals_are head.nonterminals_are read.clean c.in-Some.nonterminal c.in-Some.ensures)
 
 pub invariant-of-result : goal.invariant-of-result
@@ -55,7 +55,7 @@ invariant-of-result c =
 
 pub returns : goal.returns
 returns c =
-    let read = c.in-ok-header.ensures in
+    let read = c.in_ok-header.ensures in
     let bytes : Bytes c.args.sheet.now = λ k. omega (arith, c.type-inv.sheet k) in
     let n = c.from.result - 0 in
     let e : n ≡ rules c.args.sheet.now = omega (arith, read.headed.rules_are) in

@@ -22,6 +22,6 @@ put-spellings-requires c =
 
 pub returns : goal.returns
 returns c =
-    written c.args.self.now c.sheet-len-need.ensures.value c.from-terminals.ensures c.from-nonterminals.ensures c.from-rules.ensures
-    c.args.room.now c.put-numbers.new.room c.put-rules.new.room c.put-spellings.new.room c.if-room-need.false
-    c.put-numbers.ensures c.put-rules.ensures c.put-spellings.ensures
+    written c.args.self.now c.sheet_len-need.ensures.value c.from-terminals.ensures c.from-nonterminals.ensures c.from-rules.ensures
+    c.args.room.now c.put_numbers.new.room c.put_rules.new.room c.put-spellings.new.room c.if-room-need.false
+    c.put_numbers.ensures c.put_rules.ensures c.put-spellings.ensures

@@ -10,7 +10,7 @@ pub loop-d-preserved : goal.loop-d-preserved
 loop-d-preserved c = (
   simp length-set c.loop-d.invariant.0,
   right_more c.args.block.now c.loop-d.right c.loop-d.d c.requires c.loop-d.invariant.0 (omega arith) c.loop-d.invariant.1,
-  below_more _ c.loop-d.d c.loop-d.invariant.2 c.if-not-may-stand.ensures,
+  below_more _ c.loop-d.d c.loop-d.invariant.2 c.if-not-may_stand.ensures,
 )
 
 pub returns : goal.returns

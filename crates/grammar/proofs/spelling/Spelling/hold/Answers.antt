@@ -6,6 +6,6 @@ use Rattle.grammar.proofs.spelling.Spelling.hold.Goals as goal
 pub returns : goal.returns
 returns c =
     record {
-      same = take_at c.copy-from-slice.new.self _ (length c.args.bytes.now) (ap length c.copy-from-slice.ensures.after) ∙ c.copy-from-slice.ensures.after;
+      same = take_at c.copy_from_slice.new.self _ (length c.args.bytes.now) (ap length c.copy_from_slice.ensures.after) ∙ c.copy_from_slice.ensures.after;
       fitted = record { short = c.requires; room = search (rules, overwrites) };
     }
