@@ -31,38 +31,38 @@ returns-then-not-fits g c few holds =
     let src = g.S.StateSource.meaning c.args.source.now in
     let law = g.met.S.StateSource.lawful c.args.source.now in
     let ws = c.args.words.now in
-    let fits = told c.add-links.new.self.cells in
-    let ans = answers src law.lawful ws c.args.links.now few holds (told c.empty-spans.result.cells) (told c.add-words.new.self.cells) fits
-    c.empty-spans.ensures c.add-words.ensures c.add-links.ensures in
+    let fits = told c.add_links.new.self.cells in
+    let ans = answers src law.lawful ws c.args.links.now few holds (told c.empty-spans.result.cells) (told c.add_words.new.self.cells) fits
+    c.empty-spans.ensures c.add_words.ensures c.add_links.ensures in
     let j = judged src law.well_formed law.lawful ws fits ans c.right.result c.in-Ok.last c.fits.result c.right.ensures c.in-Ok.ensures.1 c.fits.ensures in
     ((λ s. true≢false (sym (j.1 s) ∙ c.if-not-fits.true)), refl {a = c.args.nodes.now}, refl {a = c.args.alternatives.now})
 
-pub returns-then-is-err : goal.returns-then-is-err
-returns-then-is-err g c few holds =
+pub returns-then-is_err : goal.returns-then-is_err
+returns-then-is_err g c few holds =
     let src = g.S.StateSource.meaning c.args.source.now in
     let law = g.met.S.StateSource.lawful c.args.source.now in
     let ws = c.args.words.now in
-    let fits = told c.add-links.new.self.cells in
-    let ans = answers src law.lawful ws c.args.links.now few holds (told c.empty-spans.result.cells) (told c.add-words.new.self.cells) fits
-    c.empty-spans.ensures c.add-words.ensures c.add-links.ensures in
+    let fits = told c.add_links.new.self.cells in
+    let ans = answers src law.lawful ws c.args.links.now few holds (told c.empty-spans.result.cells) (told c.add_words.new.self.cells) fits
+    c.empty-spans.ensures c.add_words.ensures c.add_links.ensures in
     let s = (judged src law.well_formed law.lawful ws fits ans c.right.result c.in-Ok.last c.fits.result c.right.ensures c.in-Ok.ensures.1 c.fits.ensures).0 c.if-not-fits.false in
     let tells = spans_tell src law.well_formed law.lawful ws s fits ans in
     too_short src.grammar law.well_formed ws s fits tells c.in-Ok.last c.in-Ok.ensures.1 few c.args.nodes.now c.args.alternatives.now
-    c.fill.new.slots c.write-written.new.nodes c.fill-then-is-err.new.slots c.write-written.new.alternatives c.write-written.result
-    (sym c.if-is-err.ensures.value) c.write-written.ensures
+    c.fill.new.slots c.write-written.new.nodes c.fill-then-is_err.new.slots c.write-written.new.alternatives c.write-written.result
+    (sym c.if-is_err.ensures.value) c.write-written.ensures
     (filled c.args.nodes.now c.write-written.new.nodes c.fill.new.slots c.blank.result blank_node c.write-written.auto.nodes c.blank.ensures c.fill.ensures)
-    (filled c.args.alternatives.now c.write-written.new.alternatives c.fill-then-is-err.new.slots c.blank-then-is-err.result blank_alternative
-    c.write-written.auto.alternatives c.blank-then-is-err.ensures c.fill-then-is-err.ensures)
+    (filled c.args.alternatives.now c.write-written.new.alternatives c.fill-then-is_err.new.slots c.blank-then-is_err.result blank_alternative
+    c.write-written.auto.alternatives c.blank-then-is_err.ensures c.fill-then-is_err.ensures)
 
-pub returns-else-is-err : goal.returns-else-is-err
-returns-else-is-err g c few holds =
+pub returns-else-is_err : goal.returns-else-is_err
+returns-else-is_err g c few holds =
     let src = g.S.StateSource.meaning c.args.source.now in
     let law = g.met.S.StateSource.lawful c.args.source.now in
     let ws = c.args.words.now in
-    let fits = told c.add-links.new.self.cells in
-    let ans = answers src law.lawful ws c.args.links.now few holds (told c.empty-spans.result.cells) (told c.add-words.new.self.cells) fits
-    c.empty-spans.ensures c.add-words.ensures c.add-links.ensures in
+    let fits = told c.add_links.new.self.cells in
+    let ans = answers src law.lawful ws c.args.links.now few holds (told c.empty-spans.result.cells) (told c.add_words.new.self.cells) fits
+    c.empty-spans.ensures c.add_words.ensures c.add_links.ensures in
     let s = (judged src law.well_formed law.lawful ws fits ans c.right.result c.in-Ok.last c.fits.result c.right.ensures c.in-Ok.ensures.1 c.fits.ensures).0 c.if-not-fits.false in
     let tells = spans_tell src law.well_formed law.lawful ws s fits ans in
     with_room src.grammar law.well_formed ws s fits tells c.in-Ok.last c.in-Ok.ensures.1 few c.args.nodes.now c.args.alternatives.now
-    c.write-written.new.nodes c.write-written.new.alternatives c.write-written.result (sym c.if-is-err.ensures.value) c.write-written.ensures
+    c.write-written.new.nodes c.write-written.new.alternatives c.write-written.result (sym c.if-is_err.ensures.value) c.write-written.ensures

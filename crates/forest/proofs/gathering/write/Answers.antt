@@ -22,23 +22,23 @@ held_few a = let w = a.within in let l = length-take-le a.count a.slots.now w in
 none_climb : (zs : List Alternative) → zs ≡ [] → Climbs by_alternative zs
 none_climb zs e = subst (λ us. Climbs by_alternative us) (sym e) (λ p q d pq l. absurd (omega arith))
 
-pub returns-in-default-put-all-alternatives : goal.returns-in-default-put-all-alternatives
-returns-in-default-put-all-alternatives g c l =
+pub returns-in_default-put_all_alternatives : goal.returns-in_default-put_all_alternatives
+returns-in_default-put_all_alternatives g c l =
     let gr = (g.S.StateSource.meaning c.args.source.now).grammar in
     let wf = (g.met.S.StateSource.lawful c.args.source.now).well_formed in
     let says = g.F.Fits.says c.args.spans.now in
     let n = c.args.last in
-    let a = c.new-node-register.result in
-    let b = c.put-all-nodes.new.nodes in
+    let a = c.new-node_register.result in
+    let b = c.put_all_nodes.new.nodes in
     let e = c.in-Ok.ensures in
-    let exact : Exactly gr says n (held b) = e.1 c.new-node-register.ensures.none l in
-    let size : room a ≡ length c.args.nodes.now = ap length c.new-node-register.ensures.slots in
+    let exact : Exactly gr says n (held b) = e.1 c.new-node_register.ensures.none l in
+    let size : room a ≡ length c.args.nodes.now = ap length c.new-node_register.ensures.slots in
     let few = held_few b in
     let same = e.0.size in
     let a' = c.new-register.result in
     let none = c.new-register.ensures.none in
     let us = c.records.result.now in
-    let short = c.in-default-put-all-alternatives.ensures.short (none_climb (held a') none) in
+    let short = c.in_default-put_all_alternatives.ensures.short (none_climb (held a') none) in
     let exact' : Exactly gr says n us = subst (λ vs. Exactly gr says n vs) (sym c.records.ensures) exact in (
       enough blank_node (MetNode gr says n) (held b) (length c.args.nodes.now) (omega arith) exact.whole,
       subst (λ t. More (MetRecord gr says n) [] t) (ap length c.new-register.ensures.slots)
@@ -52,20 +52,20 @@ returns g c l =
     let wf = (g.met.S.StateSource.lawful c.args.source.now).well_formed in
     let says = g.F.Fits.says c.args.spans.now in
     let n = c.args.last in
-    let b = c.put-all-nodes.new.nodes in
-    let exact : Exactly gr says n (held b) = c.in-Ok.ensures.1 c.new-node-register.ensures.none l in
+    let b = c.put_all_nodes.new.nodes in
+    let exact : Exactly gr says n (held b) = c.in-Ok.ensures.1 c.new-node_register.ensures.none l in
     let a' = c.new-register.result in
-    let b' = c.put-all-alternatives.new.alternatives in
+    let b' = c.put_all_alternatives.new.alternatives in
     let none = c.new-register.ensures.none in
     let us = c.records.result.now in
-    let grew = c.in-Ok-put-all-alternatives.ensures in
+    let grew = c.in-Ok-put_all_alternatives.ensures in
     let exact' : Exactly gr says n us = subst (λ vs. Exactly gr says n vs) (sym c.records.ensures) exact in
     record {
-      nodes = lists by_node (MetNode gr says n) blank_node c.blank.result b c.fill-rest.new.self _ c.len.result
-          (search rules) c.blank.ensures c.fill-rest.ensures.same c.fill-rest.ensures.slots c.len.ensures
+      nodes = lists by_node (MetNode gr says n) blank_node c.blank.result b c.fill_rest.new.self _ c.len.result
+          (search rules) c.blank.ensures c.fill_rest.ensures.same c.fill_rest.ensures.slots c.len.ensures
           exact.order exact.sound exact.whole;
-      alternatives = lists by_alternative (MetRecord gr says n) blank_alternative c.blank-2.result b' c.fill-rest-2.new.self _ c.len-2.result
-          (search rules) c.blank-2.ensures c.fill-rest-2.ensures.same c.fill-rest-2.ensures.slots c.len-2.ensures
+      alternatives = lists by_alternative (MetRecord gr says n) blank_alternative c.blank-2.result b' c.fill_rest-2.new.self _ c.len-2.result
+          (search rules) c.blank-2.ensures c.fill_rest-2.ensures.same c.fill_rest-2.ensures.slots c.len-2.ensures
           (grew.order (none_climb (held a') none))
           (λ z h. elim (grew.only z h) [
             | inl x ↦ absurd (has_none z (subst (λ (vs : List Alternative). Has vs z) none x))

@@ -4,10 +4,10 @@ use Rattle.grammar.specs.declared.rule.Rule.{Rule}
 use Rattle.grammar.proofs.Assembling.{laid_at, rules_front, rule_front, goal_fault, goal_clean, fitted_front, repeated_fault, repeated_clean}
 use Rattle.grammar.proofs.reads.read_parts.Goals as goal
 
-pub goal-misused-requires : goal.goal-misused-requires
-goal-misused-requires c r h =
-    let head = c.in-ok-header.ensures in
-    let read = c.in-ok-rules.ensures in
+pub goal_misused-requires : goal.goal_misused-requires
+goal_misused-requires c r h =
+    let head = c.in_ok-header.ensures in
+    let read = c.in_ok-rules.ensures in
     let n = c.from.result - 0 in
     let e : n ≡ rules c.args.sheet.now = omega (arith, head.rules_are) in
     let l : r < rules c.args.sheet.now = omega (arith, rules_front head read n e) in
@@ -20,26 +20,26 @@ returns-in-Some c =
     let e : n ≡ rules c.args.sheet.now = omega (arith, head.rules_are) in
     goal_fault head c.in_ok-rules.ensures n e c.in_ok-header.header.terminals head.terminals_are c.in-Some.rule c.in-Some.ensures
 
-pub read-spellings-requires : goal.read-spellings-requires
-read-spellings-requires c =
-    let head = c.in-ok-header.ensures in
+pub read_spellings-requires : goal.read_spellings-requires
+read_spellings-requires c =
+    let head = c.in_ok-header.ensures in
     let n = c.from.result - 0 in
     let e : n ≡ rules c.args.sheet.now = omega (arith, head.rules_are) in
-    (head, goal_clean head c.in-ok-rules.ensures n e c.in-ok-header.header.terminals head.terminals_are c.in-default.ensures)
+    (head, goal_clean head c.in_ok-rules.ensures n e c.in_ok-header.header.terminals head.terminals_are c.in_default.ensures)
 
-pub first-repeated-requires : goal.first-repeated-requires
-first-repeated-requires c =
-    let head = c.in-ok-header.ensures in
+pub first_repeated-requires : goal.first_repeated-requires
+first_repeated-requires c =
+    let head = c.in_ok-header.ensures in
     let n = c.from-2.result - 0 in
     let e : n ≡ terminals c.args.sheet.now = omega (arith, head.terminals_are) in
-    fitted_front c.in-ok-spellings.ensures head.counted.few_terminals n e
+    fitted_front c.in_ok-spellings.ensures head.counted.few_terminals n e
 
-pub returns-in-Some-first-repeated : goal.returns-in-Some-first-repeated
-returns-in-Some-first-repeated c =
-    let head = c.in-ok-header.ensures in
+pub returns-in-Some-first_repeated : goal.returns-in-Some-first_repeated
+returns-in-Some-first_repeated c =
+    let head = c.in_ok-header.ensures in
     let n = c.from-2.result - 0 in
     let e : n ≡ terminals c.args.sheet.now = omega (arith, head.terminals_are) in
-    repeated_fault c.in-ok-spellings.ensures head.counted.few_terminals n e c.in-Some-first-repeated.terminal c.in-Some-first-repeated.ensures
+    repeated_fault c.in_ok-spellings.ensures head.counted.few_terminals n e c.in-Some-first_repeated.terminal c.in-Some-first_repeated.ensures
 
 pub returns : goal.returns
 returns c =

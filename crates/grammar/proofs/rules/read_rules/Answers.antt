@@ -14,12 +14,12 @@ pub loop-r-init : goal.loop-r-init
 loop-r-init c =
     (refl, (λ k h. absurd (omega arith)), clean_placed c.args.sheet.now c.requires.long c.requires.counted c.requires.placed)
 
-pub returns-in-default : goal.returns-in-default
-returns-in-default c =
+pub returns-in_default : goal.returns-in_default
+returns-in_default c =
     record {
       applies =
           rule_form (omega (arith, c.from-r-end.ensures))
-          (block_ill c.args.sheet.now c.loop-r.r c.requires.terminals_are c.requires.nonterminals_are c.in-default.ensures);
+          (block_ill c.args.sheet.now c.loop-r.r c.requires.terminals_are c.requires.nonterminals_are c.in_default.ensures);
       before = c.loop-r.invariant.2;
     }
 

@@ -19,19 +19,19 @@ loop-t-init c = (
   c.requires.1,
 )
 
-pub returns-in-default : goal.returns-in-default
-returns-in-default c =
+pub returns-in_default : goal.returns-in_default
+returns-in_default c =
     record {
-      applies = cut_here c.args.sheet.now c.loop-t.t c.loop-t.rest.now c.loop-t.invariant.3 (omega arith) c.in-default.ensures;
+      applies = cut_here c.args.sheet.now c.loop-t.t c.loop-t.rest.now c.loop-t.invariant.3 (omega arith) c.in_default.ensures;
       before = c.loop-t.invariant.4;
     }
 
-pub returns-then-not-may-spell : goal.returns-then-not-may-spell
-returns-then-not-may-spell c =
+pub returns-then-not-may_spell : goal.returns-then-not-may_spell
+returns-then-not-may_spell c =
     record {
       applies =
           misspelled c.args.sheet.now c.loop-t.t c.loop-t.rest.now c.in-Some.bytes.now c.loop-t.invariant.3 c.in-Some.ensures.1
-          (omega arith) c.if-not-may-spell.ensures;
+          (omega arith) c.if-not-may_spell.ensures;
       before = c.loop-t.invariant.4;
     }
 
@@ -52,15 +52,15 @@ loop-t-preserved c =
       clean_at t inv.4 (well_read b t z w inv.3 read.1 (omega arith) read.0 c.if-not-may_spell.ensures),
     )
 
-pub returns-then-not-is-empty : goal.returns-then-not-is-empty
-returns-then-not-is-empty c =
+pub returns-then-not-is_empty : goal.returns-then-not-is_empty
+returns-then-not-is_empty c =
     let b = c.args.sheet.now in
     let z = c.loop-t.rest.now in
     let e : c.loop-t.t ≡ c.from-terminals.result = omega arith in
     record {
       applies =
           over_here b c.from-terminals.result z (c.from-terminals.ensures ∙ c.requires.0.terminals_are)
-          (c.loop-t.invariant.3 ∙ ap (remains b) e) (omega (arith, eqb-false (length z) 0 (sym c.if-not-is-empty.ensures)));
+          (c.loop-t.invariant.3 ∙ ap (remains b) e) (omega (arith, eqb-false (length z) 0 (sym c.if-not-is_empty.ensures)));
       before = subst (CleanTo b 15) e c.loop-t.invariant.4;
     }
 

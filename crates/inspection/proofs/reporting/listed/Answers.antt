@@ -10,8 +10,8 @@ pub returns : goal.returns
 returns c =
     let s = sheet c.args.grammar.now in
     let b = c.args.sheet.now in
-    let room = c.in-ok-room.ensures.len in
-    let long : length c.as-mut-slice.result.now ≡ length b = c.as-mut-slice.ensures.len ∙ room in
-    IfOk-weaker c.format.result (λ text. string_bytes text ≡ listing s ++ closing_line (length b) c.is-written-back-same.result)
+    let room = c.in_ok-room.ensures.len in
+    let long : length c.as_mut_slice.result.now ≡ length b = c.as_mut_slice.ensures.len ∙ room in
+    IfOk-weaker c.format.result (λ text. string_bytes text ≡ listing s ++ closing_line (length b) c.is_written_back-same.result)
     (λ text. sheet_bytes s ≡ b → string_bytes text ≡ listing s ++ closing_line (length b) true)
-    (λ text p e. p ∙ ap (λ same. listing s ++ closing_line (length b) same) ((c.is-written-back-same.ensures long).1 e)) c.format.ensures.ok
+    (λ text p e. p ∙ ap (λ same. listing s ++ closing_line (length b) same) ((c.is_written_back-same.ensures long).1 e)) c.format.ensures.ok

@@ -22,10 +22,10 @@ returns-then-here-eq0 g c =
 
 pub loop-c-init : goal.loop-c-init
 loop-c-init g c =
-    firing_none (g.S.StateSource.meaning c.args.source.now) c.args.x c.args.table.now c.args.limit (cells_of c.args.here.now) (cells_of c.mark-linked.new.there) c.mark-linked.ensures
+    firing_none (g.S.StateSource.meaning c.args.source.now) c.args.x c.args.table.now c.args.limit (cells_of c.args.here.now) (cells_of c.mark_linked.new.there) c.mark_linked.ensures
 
-pub put-new-requires : goal.put-new-requires
-put-new-requires g c = record {
+pub put_new-requires : goal.put_new-requires
+put_new-requires g c = record {
   bound = c.requires.bound;
   falls = firing_falls (cells_of c.pop.new.self) c.in-Some.c c.in-Some.ensures.split c.loop-c.invariant c.requires.allowed;
   fresh = firing_fresh (cells_of c.pop.new.self) c.in-Some.c c.in-Some.ensures.split c.loop-c.invariant c.requires.allowed (c.has.ensures.absent c.if-not-has.true);
@@ -33,27 +33,27 @@ put-new-requires g c = record {
 
 pub loop-c-preserved-in-Continue· : goal.loop-c-preserved-in-Continue·
 loop-c-preserved-in-Continue· g c =
-    firing_more (cells_of c.pop.new.self) c.in-Some.c c.in-Some.ensures.split c.loop-c.invariant c.requires.allowed (each_once c.loop-c.here) c.put-new.ensures.kept c.in-ok-put-new.ensures.cases
+    firing_more (cells_of c.pop.new.self) c.in-Some.c c.in-Some.ensures.split c.loop-c.invariant c.requires.allowed (each_once c.loop-c.here) c.put_new.ensures.kept c.in_ok-put_new.ensures.cases
 
 pub loop-c-preserved : goal.loop-c-preserved
 loop-c-preserved g c =
-    firing_known (cells_of c.pop.new.self) c.in-Some.c c.in-Some.ensures.split c.loop-c.invariant c.mark-linked.ensures (c.has.ensures.there c.if-not-has.false)
+    firing_known (cells_of c.pop.new.self) c.in-Some.c c.in-Some.ensures.split c.loop-c.invariant c.mark_linked.ensures (c.has.ensures.there c.if-not-has.false)
 
-pub returns-in-err-put-new : goal.returns-in-err-put-new
-returns-in-err-put-new g c =
+pub returns-in_err-put_new : goal.returns-in_err-put_new
+returns-in_err-put_new g c =
     let src = g.S.StateSource.meaning c.args.source.now in
-    let a : Along src None c.loop-c.table c.put-new.new.self c.args.limit = record { kept = c.put-new.ensures.kept; grown = turned_grown c.in-err-put-new.ensures.cases } in
-    let b : Along src None c.args.table.now c.put-new.new.self c.args.limit = along_more c.loop-c.invariant.along a in
-    let e = err_from_is_err_and c.from-residual.result c.from-residual.ensures.1 in
+    let a : Along src None c.loop-c.table c.put_new.new.self c.args.limit = record { kept = c.put_new.ensures.kept; grown = turned_grown c.in_err-put_new.ensures.cases } in
+    let b : Along src None c.args.table.now c.put_new.new.self c.args.limit = along_more c.loop-c.invariant.along a in
+    let e = err_from_is_err_and c.from_residual.result c.from_residual.ensures.1 in
     record {
       kept = b.kept;
       grown = b.grown;
-      cases = rw e.1 (firing_full (cells_of c.pop.new.self) c.in-Some.c c.in-Some.ensures.split c.loop-c.invariant c.requires.allowed c.put-new.new.self c.in-err-put-new.ensures.cases);
+      cases = rw e.1 (firing_full (cells_of c.pop.new.self) c.in-Some.c c.in-Some.ensures.split c.loop-c.invariant c.requires.allowed c.put_new.new.self c.in_err-put_new.ensures.cases);
     }
 
 pub returns : goal.returns
 returns g c = record {
   kept = c.loop-c.invariant.along.kept;
   grown = c.loop-c.invariant.along.grown;
-  cases = firing_all c.in-default.ensures.none c.loop-c.invariant;
+  cases = firing_all c.in_default.ensures.none c.loop-c.invariant;
 }

@@ -13,7 +13,7 @@ insert-requires g c κs none =
     let le : c.loop-k.k ≤ t.count = omega (arith, c.loop-k-test.true) in
     drawn_room t c.loop-k.here c.loop-k.k c.loop-k-test.true
     (drawn_more t P c.args.from c.loop-k.k le c.loop-k.invariant (drawn_none (content t)))
-    (λ m. none (subst (λ v. Mem v (cells_of c.loop-k.here)) (sym c.cell-of.ensures) m))
+    (λ m. none (subst (λ v. Mem v (cells_of c.loop-k.here)) (sym c.cell_of.ensures) m))
 
 pub returns : goal.returns
 returns g c =

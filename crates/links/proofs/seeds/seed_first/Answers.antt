@@ -9,8 +9,8 @@ pub returns-then-done : goal.returns-then-done
 returns-then-done g c =
     let src = g.S.StateSource.meaning c.args.source.now in
     let s = g.met.S.StateSource.lawful c.args.source.now in
-    let is : c.cell-of.result ≡ cell src.first 0 = c.cell-of.ensures ∙ ap (λ v. cell v 0) c.first-first.ensures in
-    bottom_here src c.args.table.now.place c.args.rule c.cell-of.result (omega (arith, s.lawful.first_in, s.few_states)) c.if-table-eq0.true
+    let is : c.cell_of.result ≡ cell src.first 0 = c.cell_of.ensures ∙ ap (λ v. cell v 0) c.first-first.ensures in
+    bottom_here src c.args.table.now.place c.args.rule c.cell_of.result (omega (arith, s.lawful.first_in, s.few_states)) c.if-table-eq0.true
     (sym (ap (λ v. src.done v c.args.rule) c.first-first.ensures) ∙ sym c.if-done.ensures) is c.requires c.insert.ensures
 
 pub returns-else-done : goal.returns-else-done

@@ -20,8 +20,8 @@ returns-in-err--new g t c =
     let q : c.args.p ≡ length (rhs gr c.args.rule) = c.if-p-length.true ∙ c.length.ensures ∙ length_is gr c.args.rule c.requires.rule in
     let x : Alternative = record { rule = c.args.rule; cuts = c.args.cuts } in
     let P : Alternative → Type 0 = Extends gr says c.args.rows.now c.args.rule c.args.j c.args.p c.args.cuts in
-    let b = err_from_is_err_and c.from-residual.result c.from-residual.ensures.1 in
-    filled_short by_alternative P c.args.alternatives.now c.insert.new.self c.from-residual.result b.0 b.1
+    let b = err_from_is_err_and c.from_residual.result c.from_residual.ensures.1 in
+    filled_short by_alternative P c.args.alternatives.now c.insert.new.self c.from_residual.result b.0 b.1
     (lacks_as by_alternative (λ z. z ≡ x) P c.args.alternatives.now c.insert.new.self
     (ended gr says c.args.rows.now c.args.rule c.args.j c.args.p c.args.cuts q c.requires.long c.requires.unused)
     (lacks_put by_alternative c.args.alternatives.now c.insert.new.self x b.0 c.in-err--new.ensures))
@@ -68,8 +68,8 @@ bounds-longer-p g t c =
     let n = c.if-p-length.false in
     omega arith
 
-pub returns-in-err-visit : goal.returns-in-err-visit
-returns-in-err-visit g t c =
+pub returns-in_err-visit : goal.returns-in_err-visit
+returns-in_err-visit g t c =
     let gr = (g.S.StateSource.meaning c.args.source.now).grammar in
     let says = g.F.Fits.says c.args.spans.now in
     let r = c.args.rule in
@@ -84,12 +84,12 @@ returns-in-err-visit g t c =
     let x : c.right-x.result ≡ get_or (rhs gr r) p 0 = c.right-x.ensures ∙ right_is gr r c.requires.rule p pm in
     let S : Alternative → Type 0 = Extends gr says rows r j p ks in
     let Q : Alternative → Type 0 = Extends gr says rows r j (p + 1) (set ks (p + 1) k) in
-    let b = err_from_is_err_and c.from-residual-in-err-visit.result c.from-residual-in-err-visit.ensures.1 in
+    let b = err_from_is_err_and c.from_residual-in_err-visit.result c.from_residual-in_err-visit.ensures.1 in
     let h : says (get_or (rhs gr r) p 0) (get_or ks p 0) k ≡ true = subst (λ y. says y (get_or ks p 0) k ≡ true) x (sym c.fits.ensures ∙ c.if-fits.true) in
-    filled_short by_alternative S c.args.alternatives.now c.visit.new.alternatives c.from-residual-in-err-visit.result b.0 b.1
+    filled_short by_alternative S c.args.alternatives.now c.visit.new.alternatives c.from_residual-in_err-visit.result b.0 b.1
     (keyed_short by_alternative S (λ (z : Alternative). get_or z.cuts (p + 1) 0) Q c.args.alternatives.now c.loop-c.alternatives c.visit.new.alternatives k
     (λ z w. (shorter gr says rows r j p ks c.requires.long pm short k (omega arith) c.if-rows-p.true h z w).0)
-    c.loop-c.invariant c.in-err-visit.ensures)
+    c.loop-c.invariant c.in_err-visit.ensures)
 
 pub loop-c-preserved : goal.loop-c-preserved
 loop-c-preserved g t c =

@@ -16,8 +16,8 @@ loop-p-init g c =
     let e : c.length-p.result ≡ m = c.length-p.ensures ∙ length_is gr r c.requires in
     let short = (g.met.S.StateSource.lawful c.args.source.now).well_formed.short r c.requires in (
       omega arith,
-      subst (λ k. Completes f m c.args.i c.args.j (replicate 8 c.one-mark-rows.result) k) (sym e)
-          (completes_none f forward m c.args.i c.args.j (replicate 8 c.one-mark-rows.result) c.one-mark-rows.result c.ranges.j.fits short refl c.one-mark-rows.ensures),
+      subst (λ k. Completes f m c.args.i c.args.j (replicate 8 c.one_mark-rows.result) k) (sym e)
+          (completes_none f forward m c.args.i c.args.j (replicate 8 c.one_mark-rows.result) c.one_mark-rows.result c.ranges.j.fits short refl c.one_mark-rows.ensures),
     )
 
 pub bounds-rows-p : goal.bounds-rows-p

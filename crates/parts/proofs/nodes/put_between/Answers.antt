@@ -17,15 +17,15 @@ loop-a-init g c =
     keyed_none by_node (Between h c.args.before.now c.args.next.now c.args.x c.args.i c.args.j) (λ (z : Node). z.from) c.args.nodes.now c.args.i
     (λ z w. w.low)
 
-pub returns-in-err-put-from : goal.returns-in-err-put-from
-returns-in-err-put-from g c =
+pub returns-in_err-put_from : goal.returns-in_err-put_from
+returns-in_err-put_from g c =
     let h = g.F.Fits.says c.args.spans.now c.args.x in
     let S : Node → Type 0 = Between h c.args.before.now c.args.next.now c.args.x c.args.i c.args.j in
-    let b = err_from_is_err_and c.from-residual.result c.from-residual.ensures.1 in
-    filled_short by_node S c.args.nodes.now c.put-from.new.nodes c.from-residual.result b.0 b.1
-    (keyed_short by_node S (λ (z : Node). z.from) (From h c.args.next.now c.args.x c.args.j c.loop-a.a) c.args.nodes.now c.loop-a.nodes c.put-from.new.nodes c.loop-a.a
+    let b = err_from_is_err_and c.from_residual.result c.from_residual.ensures.1 in
+    filled_short by_node S c.args.nodes.now c.put_from.new.nodes c.from_residual.result b.0 b.1
+    (keyed_short by_node S (λ (z : Node). z.from) (From h c.args.next.now c.args.x c.args.j c.loop-a.a) c.args.nodes.now c.loop-a.nodes c.put_from.new.nodes c.loop-a.a
     (λ z q. (from_between h c.args.x c.args.j c.args.before.now c.args.next.now c.args.i c.loop-a.a (omega arith) (omega arith) c.if-before-a.true z q).0)
-    c.loop-a.invariant c.in-err-put-from.ensures)
+    c.loop-a.invariant c.in_err-put_from.ensures)
 
 pub loop-a-preserved : goal.loop-a-preserved
 loop-a-preserved g c =
@@ -35,7 +35,7 @@ loop-a-preserved g c =
     let G : Register Node → Type 0 = λ nodes. Grew by_node (Upto by_node S (λ (z : Node). z.from) (k + 1)) c.args.nodes.now nodes in
     elim c.if-before-a.branch [
       | then-before-a+in_ok_put_from w ↦ subst G (sym w.nodes-is)
-          (keyed_taken by_node S (λ (z : Node). z.from) (From h c.args.next.now c.args.x c.args.j k) c.args.nodes.now c.loop-a.nodes w.put-from.new.nodes k
+          (keyed_taken by_node S (λ (z : Node). z.from) (From h c.args.next.now c.args.x c.args.j k) c.args.nodes.now c.loop-a.nodes w.put_from.new.nodes k
           (from_between h c.args.x c.args.j c.args.before.now c.args.next.now c.args.i k (omega arith) (omega arith) w.if-before-a.true)
           (between_from h c.args.x c.args.j c.args.before.now c.args.next.now c.args.i k)
           c.loop-a.invariant w.in_ok_put_from.ensures)

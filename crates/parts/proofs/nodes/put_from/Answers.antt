@@ -17,17 +17,17 @@ loop-b-init g c =
     keyed_none by_node (From h c.args.next.now c.args.x c.args.j c.args.a) (λ (z : Node). z.to) c.args.nodes.now c.args.a
     (λ z w. g.met.F.Fits.forward c.args.spans.now c.args.x c.args.a z.to w.fits)
 
-pub returns-in-err-insert : goal.returns-in-err-insert
-returns-in-err-insert g c =
+pub returns-in_err-insert : goal.returns-in_err-insert
+returns-in_err-insert g c =
     let h = g.F.Fits.says c.args.spans.now c.args.x in
     let S : Node → Type 0 = From h c.args.next.now c.args.x c.args.j c.args.a in
     let x : Node = record { from = c.args.a; to = c.loop-b.b; symbol = c.args.x } in
-    let b = err_from_is_err_and c.from-residual.result c.from-residual.ensures.1 in
-    filled_short by_node S c.args.nodes.now c.insert.new.self c.from-residual.result b.0 b.1
+    let b = err_from_is_err_and c.from_residual.result c.from_residual.ensures.1 in
+    filled_short by_node S c.args.nodes.now c.insert.new.self c.from_residual.result b.0 b.1
     (keyed_short by_node S (λ (z : Node). z.to) (λ z. z ≡ x) c.args.nodes.now c.loop-b.nodes c.insert.new.self c.loop-b.b
     (λ z q. (is_from h c.args.x c.args.j c.args.next.now c.args.a c.loop-b.b (omega arith) c.if-next-b.true
     (sym c.fits.ensures ∙ c.if-fits.true) z q).0)
-    c.loop-b.invariant (lacks_put by_node c.loop-b.nodes c.insert.new.self x b.0 c.in-err-insert.ensures))
+    c.loop-b.invariant (lacks_put by_node c.loop-b.nodes c.insert.new.self x b.0 c.in_err-insert.ensures))
 
 pub loop-b-preserved : goal.loop-b-preserved
 loop-b-preserved g c =

@@ -12,23 +12,23 @@ use Rattle.parts.proofs.Placing.{rules_none, rule_taken, rule_passed, rule_short
 use Rattle.parts.proofs.nodes.put_parts.Goals as goal
 use Rattle.parts.proofs.nodes.put_parts.Goals.{then-left-node+in_ok_put_parts_by, else-left-node}
 
-pub put-parts-by-requires : goal.put-parts-by-requires
-put-parts-by-requires g c = let e = c.rules-rule-end.ensures in omega arith
+pub put_parts_by-requires : goal.put_parts_by-requires
+put_parts_by-requires g c = let e = c.rules-rule-end.ensures in omega arith
 
 pub loop-rule-init : goal.loop-rule-init
 loop-rule-init g c =
     rules_none (g.S.StateSource.meaning c.args.source.now).grammar (g.F.Fits.says c.args.spans.now) c.args.node c.args.nodes.now
 
-pub returns-in-err-put-parts-by : goal.returns-in-err-put-parts-by
-returns-in-err-put-parts-by g c =
+pub returns-in_err-put_parts_by : goal.returns-in_err-put_parts_by
+returns-in_err-put_parts_by g c =
     let gr = (g.S.StateSource.meaning c.args.source.now).grammar in
     let says = g.F.Fits.says c.args.spans.now in
     let r = c.loop-rule.rule in
     let rl : r < rule_count gr = (let e = c.rules-rule-end.ensures in omega arith) in
     let l : lhs gr r ≡ c.args.node.symbol = sym (left_is gr r rl) ∙ sym c.left.ensures ∙ c.if-left-node.true in
-    let b = err_from_is_err_and c.from-residual.result c.from-residual.ensures.1 in
-    filled_short by_node (PartBelow gr says c.args.node (rule_count gr)) c.args.nodes.now c.put-parts-by.new.nodes c.from-residual.result b.0 b.1
-    (rule_short gr says c.args.node c.args.nodes.now c.loop-rule.nodes c.put-parts-by.new.nodes r (rule_count gr) l rl c.loop-rule.invariant c.in-err-put-parts-by.ensures)
+    let b = err_from_is_err_and c.from_residual.result c.from_residual.ensures.1 in
+    filled_short by_node (PartBelow gr says c.args.node (rule_count gr)) c.args.nodes.now c.put_parts_by.new.nodes c.from_residual.result b.0 b.1
+    (rule_short gr says c.args.node c.args.nodes.now c.loop-rule.nodes c.put_parts_by.new.nodes r (rule_count gr) l rl c.loop-rule.invariant c.in_err-put_parts_by.ensures)
 
 pub loop-rule-preserved : goal.loop-rule-preserved
 loop-rule-preserved g c =
@@ -40,7 +40,7 @@ loop-rule-preserved g c =
     let G : Register Node → Type 0 = λ nodes. Grew by_node (PartBelow gr says c.args.node (r + 1)) c.args.nodes.now nodes in
     elim c.if-left-node.branch [
       | then-left-node+in_ok_put_parts_by w ↦ subst G (sym w.nodes-is)
-          (rule_taken gr says c.args.node c.args.nodes.now c.loop-rule.nodes w.put-parts-by.new.nodes r (sym same ∙ w.if-left-node.true)
+          (rule_taken gr says c.args.node c.args.nodes.now c.loop-rule.nodes w.put_parts_by.new.nodes r (sym same ∙ w.if-left-node.true)
           c.loop-rule.invariant w.in_ok_put_parts_by.ensures)
       | else-left-node w ↦ subst G (sym w.nodes-is)
           (rule_passed gr says c.args.node c.args.nodes.now c.loop-rule.nodes r (λ e. w.if-left-node.false (same ∙ e)) c.loop-rule.invariant)

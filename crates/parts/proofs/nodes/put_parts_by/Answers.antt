@@ -21,7 +21,7 @@ loop-p-init g c =
     let says = g.F.Fits.says c.args.spans.now in
     let forward = g.met.F.Fits.forward c.args.spans.now in
     let r = c.args.rule in (
-      leads_none (part_fits gr says r) (λ p. forward (get_or (rhs gr r) p 0)) (length (rhs gr r)) c.args.i c.args.j c.one-mark-before.result c.ranges.i.fits c.one-mark-before.ensures,
+      leads_none (part_fits gr says r) (λ p. forward (get_or (rhs gr r) p 0)) (length (rhs gr r)) c.args.i c.args.j c.one_mark-before.result c.ranges.i.fits c.one_mark-before.ensures,
       parts_none gr says forward r c.args.i c.args.j c.args.nodes.now,
     )
 
@@ -39,8 +39,8 @@ bounds-rows-p-in-loop-p g c =
     let short = (g.met.S.StateSource.lawful c.args.source.now).well_formed.short c.args.rule c.requires in
     omega arith
 
-pub returns-in-err-put-between : goal.returns-in-err-put-between
-returns-in-err-put-between g c =
+pub returns-in_err-put_between : goal.returns-in_err-put_between
+returns-in_err-put_between g c =
     let gr = (g.S.StateSource.meaning c.args.source.now).grammar in
     let says = g.F.Fits.says c.args.spans.now in
     let forward = g.met.F.Fits.forward c.args.spans.now in
@@ -51,12 +51,12 @@ returns-in-err-put-between g c =
     let pm : p < length (rhs gr r) = omega arith in
     let x : c.right-x.result ≡ get_or (rhs gr r) p 0 = c.right-x.ensures ∙ right_is gr r c.requires p pm in
     let t = c.terminals.ensures in
-    let b = err_from_is_err_and c.from-residual.result c.from-residual.ensures.1 in
-    filled_short by_node (PartOf gr says r c.args.i c.args.j (length (rhs gr r))) c.args.nodes.now c.put-between.new.nodes c.from-residual.result b.0 b.1
+    let b = err_from_is_err_and c.from_residual.result c.from_residual.ensures.1 in
+    filled_short by_node (PartOf gr says r c.args.i c.args.j (length (rhs gr r))) c.args.nodes.now c.put_between.new.nodes c.from_residual.result b.0 b.1
     (part_short gr says forward r c.args.i c.args.j p c.loop-p.before rows pm c.loop-p.invariant.0 c.completes-rows.ensures
-    c.args.nodes.now c.loop-p.nodes c.put-between.new.nodes (omega arith) c.loop-p.invariant.1
-    (subst (λ y. Lacks by_node (Between (says y) c.loop-p.before (get_or rows (p + 1) []) y c.args.i c.args.j) c.loop-p.nodes c.put-between.new.nodes) x
-    c.in-err-put-between.ensures))
+    c.args.nodes.now c.loop-p.nodes c.put_between.new.nodes (omega arith) c.loop-p.invariant.1
+    (subst (λ y. Lacks by_node (Between (says y) c.loop-p.before (get_or rows (p + 1) []) y c.args.i c.args.j) c.loop-p.nodes c.put_between.new.nodes) x
+    c.in_err-put_between.ensures))
 
 pub loop-p-preserved : goal.loop-p-preserved
 loop-p-preserved g c =
@@ -78,8 +78,8 @@ loop-p-preserved g c =
       elim c.if-x-terminals.branch [
         | then-x-terminals+in_ok_put_between w ↦ subst G (sym w.nodes-is)
             (part_taken gr says forward r c.args.i c.args.j p c.loop-p.before rows pm c.loop-p.invariant.0 c.completes-rows.ensures
-            c.args.nodes.now c.loop-p.nodes w.put-between.new.nodes (let l = w.if-x-terminals.true in omega arith) c.loop-p.invariant.1
-            (subst (λ y. Grew by_node (Between (says y) c.loop-p.before (get_or rows (p + 1) []) y c.args.i c.args.j) c.loop-p.nodes w.put-between.new.nodes) x
+            c.args.nodes.now c.loop-p.nodes w.put_between.new.nodes (let l = w.if-x-terminals.true in omega arith) c.loop-p.invariant.1
+            (subst (λ y. Grew by_node (Between (says y) c.loop-p.before (get_or rows (p + 1) []) y c.args.i c.args.j) c.loop-p.nodes w.put_between.new.nodes) x
             w.in_ok_put_between.ensures))
         | else-x-terminals w ↦ subst G (sym w.nodes-is)
             (part_passed gr says forward r c.args.i c.args.j p c.loop-p.before rows pm c.loop-p.invariant.0 c.completes-rows.ensures

@@ -11,17 +11,17 @@ pub loop-k-init : goal.loop-k-init
 loop-k-init g c =
     some_none (g.S.StateSource.meaning c.args.source.now).grammar (g.F.Fits.says c.args.spans.now) c.args.nodes.now c.args.alternatives.now
 
-pub returns-in-err-put-alternatives : goal.returns-in-err-put-alternatives
-returns-in-err-put-alternatives g c =
+pub returns-in_err-put_alternatives : goal.returns-in_err-put_alternatives
+returns-in_err-put_alternatives g c =
     let gr = (g.S.StateSource.meaning c.args.source.now).grammar in
     let says = g.F.Fits.says c.args.spans.now in
     let us = c.args.nodes.now in
-    let b = err_from_is_err_and c.from-residual.result c.from-residual.ensures.1 in
-    filled_short by_alternative (OfSome gr says us (length us)) c.args.alternatives.now c.put-alternatives.new.alternatives c.from-residual.result b.0 b.1
-    (node_short gr says us c.args.alternatives.now c.loop-k.alternatives c.put-alternatives.new.alternatives c.loop-k.k (length us) c.loop-k-test.true
-    c.loop-k.invariant c.in-err-put-alternatives.ensures)
+    let b = err_from_is_err_and c.from_residual.result c.from_residual.ensures.1 in
+    filled_short by_alternative (OfSome gr says us (length us)) c.args.alternatives.now c.put_alternatives.new.alternatives c.from_residual.result b.0 b.1
+    (node_short gr says us c.args.alternatives.now c.loop-k.alternatives c.put_alternatives.new.alternatives c.loop-k.k (length us) c.loop-k-test.true
+    c.loop-k.invariant c.in_err-put_alternatives.ensures)
 
 pub loop-k-preserved : goal.loop-k-preserved
 loop-k-preserved g c =
     node_taken (g.S.StateSource.meaning c.args.source.now).grammar (g.F.Fits.says c.args.spans.now) c.args.nodes.now
-    c.args.alternatives.now c.loop-k.alternatives c.put-alternatives.new.alternatives c.loop-k.k c.loop-k.invariant c.in-ok-put-alternatives.ensures
+    c.args.alternatives.now c.loop-k.alternatives c.put_alternatives.new.alternatives c.loop-k.k c.loop-k.invariant c.in_ok-put_alternatives.ensures

@@ -13,9 +13,9 @@ returns-then-node-i c =
     let us = c.records-records.result.now in
     let i = c.args.i in
     let j = c.args.j in
-    let k = c.lower-bound-k.result in
+    let k = c.lower_bound-k.result in
     subst (λ (vs : List Node). Climbs by_node vs → AllDone vs i j c.args.done.now) c.records-records.ensures
-    (λ up. run_all us i j k c.lower-bound-k.ensures c.args.done.now c.loop-k.k c.loop-k.auto.k
+    (λ up. run_all us i j k c.lower_bound-k.ensures c.args.done.now c.loop-k.k c.loop-k.auto.k
     (λ l f s. elim c.then-node-i.branch [
       | then-node-i-via-then-node-i w ↦ w.if-node-i.true f
       | then-node-i-via-else-node-i+then-node-j w ↦ w.if-node-j.true s
@@ -42,7 +42,7 @@ returns c =
     let us = c.records-records.result.now in
     let i = c.args.i in
     let j = c.args.j in
-    let k = c.lower-bound-k.result in
+    let k = c.lower_bound-k.result in
     subst (λ (vs : List Node). Climbs by_node vs → AllDone vs i j c.args.done.now) c.records-records.ensures
-    (λ up. run_all us i j k c.lower-bound-k.ensures c.args.done.now c.loop-k.k c.loop-k.auto.k
+    (λ up. run_all us i j k c.lower_bound-k.ensures c.args.done.now c.loop-k.k c.loop-k.auto.k
     (λ l f s. let m = c.loop-k-test.false in omega arith) c.loop-k.invariant up)

@@ -20,7 +20,7 @@ returns-in-err--new g c =
     let says = g.F.Fits.says c.args.spans.now in
     let n = c.args.last in
     let x = c.right.result in
-    let b = err_from_is_err_and c.from-residual.result c.from-residual.ensures.1 in
+    let b = err_from_is_err_and c.from_residual.result c.from_residual.ensures.1 in
     let lacks : Lacks by_node (λ (z : Node). z ≡ node_at (start gr) 0 n) c.args.nodes.now c.insert.new.self =
     subst (λ t. Lacks by_node (λ (z : Node). z ≡ node_at t 0 n) c.args.nodes.now c.insert.new.self) (start_is gr wf x c.right.ensures)
     (lacks_put by_node c.args.nodes.now c.insert.new.self (node_at x 0 n) b.0 c.in-err--new.ensures) in
@@ -30,22 +30,22 @@ returns-in-err--new g c =
 pub loop-i-init : goal.loop-i-init
 loop-i-init g c = (same_slots c.insert.new.self, λ l s. s)
 
-pub returns-in-err-sweep-from : goal.returns-in-err-sweep-from
-returns-in-err-sweep-from g c =
+pub returns-in_err-sweep_from : goal.returns-in_err-sweep_from
+returns-in_err-sweep_from g c =
     let gr = (g.S.StateSource.meaning c.args.source.now).grammar in
     let wf = (g.met.S.StateSource.lawful c.args.source.now).well_formed in
     let says = g.F.Fits.says c.args.spans.now in
     let n = c.args.last in
     let x = c.right.result in
     let v = c.loop-i.invariant in
-    let f = c.in-err-sweep-from.ensures in
-    let b = err_from_is_err_and c.from-residual-in-err-sweep-from.result c.from-residual-in-err-sweep-from.ensures.1 in
+    let f = c.in_err-sweep_from.ensures in
+    let b = err_from_is_err_and c.from_residual-in_err-sweep_from.result c.from_residual-in_err-sweep_from.ensures.1 in
     let grew : Grew by_node (λ (z : Node). z ≡ node_at (start gr) 0 n) c.args.nodes.now c.insert.new.self =
     subst (λ t. Grew by_node (λ (z : Node). z ≡ node_at t 0 n) c.args.nodes.now c.insert.new.self) (start_is gr wf x c.right.ensures)
     (grew_put by_node node_faithful c.args.nodes.now c.insert.new.self (node_at x 0 n) c.in-ok--new.-new c.in-ok--new.ensures) in
     let same = then-slots c.args.nodes.now c.insert.new.self c.loop-i.nodes grew.same v.0 in
-    subst (λ r. Collected gr says n c.args.nodes.now c.sweep-from.new.nodes r) (sym b.1) (
-      then-slots c.args.nodes.now c.loop-i.nodes c.sweep-from.new.nodes same f.same,
+    subst (λ r. Collected gr says n c.args.nodes.now c.sweep_from.new.nodes r) (sym b.1) (
+      then-slots c.args.nodes.now c.loop-i.nodes c.sweep_from.new.nodes same f.same,
       λ none l. subst (λ t. More (MetNode gr says n) [] t) same.size
           (f.short n l (v.1 l (first_sweep gr wf says (g.met.F.Fits.forward c.args.spans.now) n c.args.nodes.now c.insert.new.self none grew))),
     )
@@ -53,8 +53,8 @@ returns-in-err-sweep-from g c =
 pub loop-i-preserved : goal.loop-i-preserved
 loop-i-preserved g c =
     let v = c.loop-i.invariant in
-    let u = c.in-ok-sweep-from.ensures in (
-      then-slots c.insert.new.self c.loop-i.nodes c.sweep-from.new.nodes v.0 u.same,
+    let u = c.in_ok-sweep_from.ensures in (
+      then-slots c.insert.new.self c.loop-i.nodes c.sweep_from.new.nodes v.0 u.same,
       λ l s. u.goes_on c.args.last l (v.1 l s),
     )
 

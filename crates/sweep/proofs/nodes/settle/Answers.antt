@@ -15,30 +15,30 @@ pub loop-symbol-init : goal.loop-symbol-init
 loop-symbol-init g c =
     let src = g.S.StateSource.meaning c.args.source.now in
     let wf = (g.met.S.StateSource.lawful c.args.source.now).well_formed in
-    let done = c.none-done-done.result in (
-      ap length c.none-done-done.ensures,
+    let done = c.none_done-done.result in (
+      ap length c.none_done-done.ensures,
       same_slots c.args.nodes.now,
-      held_none c.args.i c.args.j (held c.args.nodes.now) done c.none-done-done.ensures,
+      held_none c.args.i c.args.j (held c.args.nodes.now) done c.none_done-done.ensures,
       λ n l s. cell_start src.grammar wf (g.F.Fits.says c.args.spans.now) (g.met.F.Fits.forward c.args.spans.now) n
-          c.args.i c.args.j (held c.args.nodes.now) done c.none-done-done.ensures s,
+          c.args.i c.args.j (held c.args.nodes.now) done c.none_done-done.ensures s,
     )
 
-pub returns-in-err-put-parts : goal.returns-in-err-put-parts
-returns-in-err-put-parts g c =
+pub returns-in_err-put_parts : goal.returns-in_err-put_parts
+returns-in_err-put_parts g c =
     let src = g.S.StateSource.meaning c.args.source.now in
     let wf = (g.met.S.StateSource.lawful c.args.source.now).well_formed in
     let says = g.F.Fits.says c.args.spans.now in
     let i = c.args.i in
     let j = c.args.j in
     let v = c.loop-symbol.invariant in
-    let f = c.in-err-put-parts.ensures in
-    let b = err_from_is_err_and c.from-residual.result c.from-residual.ensures.1 in
-    subst (λ r. Settles src.grammar says (Past i (j + 1)) (Past i j) c.args.nodes.now c.put-parts.new.nodes r) (sym b.1)
+    let f = c.in_err-put_parts.ensures in
+    let b = err_from_is_err_and c.from_residual.result c.from_residual.ensures.1 in
+    subst (λ r. Settles src.grammar says (Past i (j + 1)) (Past i j) c.args.nodes.now c.put_parts.new.nodes r) (sym b.1)
     (record {
-      same = then-slots c.args.nodes.now c.loop-symbol.nodes c.put-parts.new.nodes v.1 f.same;
+      same = then-slots c.args.nodes.now c.loop-symbol.nodes c.put_parts.new.nodes v.1 f.same;
       short = λ n l s.
           subst (λ t. More (MetNode src.grammar says n) [] t) v.1.size
-          (sweep_short src.grammar wf says (g.met.F.Fits.forward c.args.spans.now) n (Cell i j c.loop-symbol.done) c.loop-symbol.nodes c.put-parts.new.nodes
+          (sweep_short src.grammar wf says (g.met.F.Fits.forward c.args.spans.now) n (Cell i j c.loop-symbol.done) c.loop-symbol.nodes c.put_parts.new.nodes
           (node_at c.in-Some.symbol i j) c.in-Some.ensures.held (v.3 n l s) f);
     })
 
@@ -52,11 +52,11 @@ loop-symbol-preserved g c =
     let x = c.in-Some.symbol in
     let v = c.loop-symbol.invariant in
     let o = c.in-Some.ensures in
-    let u = c.in-ok-put-parts.ensures in (
+    let u = c.in_ok-put_parts.ensures in (
       length-set c.loop-symbol.done x true ∙ v.0,
-      then-slots c.args.nodes.now c.loop-symbol.nodes c.put-parts.new.nodes v.1 u.same,
-      held_more i j x c.loop-symbol.done c.loop-symbol.nodes c.put-parts.new.nodes (PartBelow src.grammar says (node_at x i j) (rule_count src.grammar)) o.held u v.2,
-      λ n l s. cell_grow src.grammar wf says (g.met.F.Fits.forward c.args.spans.now) n i j x c.loop-symbol.done c.loop-symbol.nodes c.put-parts.new.nodes o v.2 u (v.3 n l s),
+      then-slots c.args.nodes.now c.loop-symbol.nodes c.put_parts.new.nodes v.1 u.same,
+      held_more i j x c.loop-symbol.done c.loop-symbol.nodes c.put_parts.new.nodes (PartBelow src.grammar says (node_at x i j) (rule_count src.grammar)) o.held u v.2,
+      λ n l s. cell_grow src.grammar wf says (g.met.F.Fits.forward c.args.spans.now) n i j x c.loop-symbol.done c.loop-symbol.nodes c.put_parts.new.nodes o v.2 u (v.3 n l s),
     )
 
 pub loop-symbol-smaller : goal.loop-symbol-smaller
@@ -74,5 +74,5 @@ returns g c =
     record {
       same = v.1;
       goes_on = λ n l s. cell_end src.grammar wf (g.F.Fits.says c.args.spans.now) (g.met.F.Fits.forward c.args.spans.now) n c.args.i c.args.j
-          (held c.loop-symbol.nodes) c.loop-symbol.done c.in-default.ensures (v.3 n l s);
+          (held c.loop-symbol.nodes) c.loop-symbol.done c.in_default.ensures (v.3 n l s);
     }

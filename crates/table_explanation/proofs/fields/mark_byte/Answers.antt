@@ -3,8 +3,8 @@ use Rattle.table_format.specs.Sheets.{marks_at, states_told, symbols_told}
 use Rattle.table_explanation.proofs.Cells.{mark_at, mark_none}
 use Rattle.table_explanation.proofs.fields.mark_byte.Goals as goal
 
-pub returns-in-default : goal.returns-in-default
-returns-in-default c = mark_none c.args.sheet.now c.args.state c.args.rule c.in-default.ensures
+pub returns-in_default : goal.returns-in_default
+returns-in_default c = mark_none c.args.sheet.now c.args.state c.args.rule c.in_default.ensures
 
 pub returns : goal.returns
 returns c =
@@ -12,9 +12,9 @@ returns c =
     let h = c.in-Some.header in
     let tells = c.in-Some.ensures in
     c.byte.ensures
-    ∙ mark_at b c.args.state c.args.rule h.rules c.steps-end.result c.saturating-mul.result c.saturating-add-cell.result
-    c.saturating-add.result (omega arith) tells.rules_are
-    (c.steps-end.ensures ∙ ap (λ n. min (marks_at n h.symbols) (2 ^ 64 - 1)) tells.states_are
+    ∙ mark_at b c.args.state c.args.rule h.rules c.steps_end.result c.saturating_mul.result c.saturating_add-cell.result
+    c.saturating_add.result (omega arith) tells.rules_are
+    (c.steps_end.ensures ∙ ap (λ n. min (marks_at n h.symbols) (2 ^ 64 - 1)) tells.states_are
     ∙ ap (λ n. min (marks_at (states_told b) n) (2 ^ 64 - 1)) tells.symbols_are)
-    (c.saturating-mul.ensures ∙ ap (λ n. min (n * h.rules) (2 ^ 64 - 1)) c.from.ensures)
-    (c.saturating-add-cell.ensures ∙ ap (λ n. min (c.saturating-mul.result + n) (2 ^ 64 - 1)) c.from-2.ensures) c.saturating-add.ensures
+    (c.saturating_mul.ensures ∙ ap (λ n. min (n * h.rules) (2 ^ 64 - 1)) c.from.ensures)
+    (c.saturating_add-cell.ensures ∙ ap (λ n. min (c.saturating_mul.result + n) (2 ^ 64 - 1)) c.from-2.ensures) c.saturating_add.ensures

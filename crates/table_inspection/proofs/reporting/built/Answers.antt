@@ -17,18 +17,18 @@ returns-in-Err c =
 
 pub unreachable-requires : goal.unreachable-requires
 unreachable-requires c =
-    let sheet_of = c.in-ok-sheet.ensures in
-    not_refused c.args.grammar.now c.in-Ok.states c.as-slice.result.now c.in-Err-check.field-0 c.in-Ok.ensures.over_grammar
-    (c.as-slice.ensures.value ∙ sheet_of.0) sheet_of.1 c.in-Err-check.ensures
+    let sheet_of = c.in_ok-sheet.ensures in
+    not_refused c.args.grammar.now c.in-Ok.states c.as_slice.result.now c.in-Err-check.field-0 c.in-Ok.ensures.over_grammar
+    (c.as_slice.ensures.value ∙ sheet_of.0) sheet_of.1 c.in-Err-check.ensures
 
 pub returns : goal.returns
 returns c =
     let g = c.args.grammar.now in
-    let d = c.as-slice.result.now in
+    let d = c.as_slice.result.now in
     let t = c.in-Ok-check.table in
     let how = codes "built and written" in
-    let size : c.len.result ≡ length d = c.len.ensures ∙ sym c.as-slice.ensures.len in
+    let size : c.len.result ≡ length d = c.len.ensures ∙ sym c.as_slice.ensures.len in
     IfOk-weaker c.listed.result (λ text. string_bytes text ≡ text_of g t how c.len.result)
     (λ text. (b : List ℕ) → length b ≡ 0 → TableReport (sheet g) b (string_bytes text))
     (λ text p. built_report g c.in-Ok.states d t (string_bytes text) c.in-Ok.ensures.over_grammar c.in-Ok.ensures.built
-    (c.as-slice.ensures.value ∙ c.in-ok-sheet.ensures.0) c.in-Ok-check.ensures (p ∙ ap (text_of g t how) size)) c.listed.ensures
+    (c.as_slice.ensures.value ∙ c.in_ok-sheet.ensures.0) c.in-Ok-check.ensures (p ∙ ap (text_of g t how) size)) c.listed.ensures

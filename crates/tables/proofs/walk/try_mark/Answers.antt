@@ -17,11 +17,11 @@ returns-then-done-wanted c =
     at_mark
     (record { come = c.requires.come; inside = c.requires.inside; rule = c.requires.rule; row = c.row.ensures; state = c.state-state.ensures; byte = c.done.ensures })
     (c.if-done-wanted.true
-    ∙ wanted (meaning c.args.grammar.now) (items c.row.result) c.args.rule c.from.result c.is-done-wanted.result c.from.ensures c.requires.rule c.is-done-wanted.ensures)
+    ∙ wanted (meaning c.args.grammar.now) (items c.row.result) c.args.rule c.from.result c.is_done-wanted.result c.from.ensures c.requires.rule c.is_done-wanted.ensures)
 
 pub returns-else-done-wanted : goal.returns-else-done-wanted
 returns-else-done-wanted c =
     at_mark_wrong
     (record { come = c.requires.come; inside = c.requires.inside; rule = c.requires.rule; row = c.row.ensures; state = c.state-state.ensures; byte = c.done.ensures })
     (λ e. c.if-done-wanted.false
-    (e ∙ sym (wanted (meaning c.args.grammar.now) (items c.row.result) c.args.rule c.from.result c.is-done-wanted.result c.from.ensures c.requires.rule c.is-done-wanted.ensures)))
+    (e ∙ sym (wanted (meaning c.args.grammar.now) (items c.row.result) c.args.rule c.from.result c.is_done-wanted.result c.from.ensures c.requires.rule c.is_done-wanted.ensures)))

@@ -34,25 +34,25 @@ pub returns-then-same : goal.returns-then-same
 returns-then-same c =
     at_met
     (record { come = c.requires.come; inside = c.requires.inside; symbol = c.requires.symbol; row = c.row.ensures; state = c.state-state.ensures; byte = c.step-byte.ensures })
-    (step_by c.from.ensures c.in-Some.ensures) c.if-byte-2.false c.in-Some-place-of.target c.in-Some-place-of.ensures
-    (items c.row-in-Some-place-of.result) c.row-in-Some-place-of.ensures c.if-same.ensures.items
+    (step_by c.from.ensures c.in-Some.ensures) c.if-byte-2.false c.in-Some-place_of.target c.in-Some-place_of.ensures
+    (items c.row-in-Some-place_of.result) c.row-in-Some-place_of.ensures c.if-same.ensures.items
 
 pub returns-else-same : goal.returns-else-same
 returns-else-same c =
     at_other
     (record { come = c.requires.come; inside = c.requires.inside; symbol = c.requires.symbol; row = c.row.ensures; state = c.state-state.ensures; byte = c.step-byte.ensures })
-    (step_by c.from.ensures c.in-Some.ensures) c.if-byte-2.false c.in-Some-place-of.target c.in-Some-place-of.ensures
-    (items c.row-in-Some-place-of.result) c.row-in-Some-place-of.ensures c.if-same.ensures.items
+    (step_by c.from.ensures c.in-Some.ensures) c.if-byte-2.false c.in-Some-place_of.target c.in-Some-place_of.ensures
+    (items c.row-in-Some-place_of.result) c.row-in-Some-place_of.ensures c.if-same.ensures.items
 
-pub returns-then-knows-row : goal.returns-then-knows-row
-returns-then-knows-row c =
-    let (j, h, e) = c.if-knows-row.ensures in
+pub returns-then-knows_row : goal.returns-then-knows_row
+returns-then-knows_row c =
+    let (j, h, e) = c.if-knows_row.ensures in
     at_known
     (record { come = c.requires.come; inside = c.requires.inside; symbol = c.requires.symbol; row = c.row.ensures; state = c.state-state.ensures; byte = c.step-byte.ensures })
-    (step_by c.from.ensures c.in-Some.ensures) c.if-byte-2.false c.in-default.ensures j h e
+    (step_by c.from.ensures c.in-Some.ensures) c.if-byte-2.false c.in_default.ensures j h e
 
-pub returns-else-knows-row : goal.returns-else-knows-row
-returns-else-knows-row c =
+pub returns-else-knows_row : goal.returns-else-knows_row
+returns-else-knows_row c =
     at_new
     (record { come = c.requires.come; inside = c.requires.inside; symbol = c.requires.symbol; row = c.row.ensures; state = c.state-state.ensures; byte = c.step-byte.ensures })
-    (step_by c.from.ensures c.in-Some.ensures) c.if-byte-2.false c.in-default.ensures c.if-knows-row.ensures
+    (step_by c.from.ensures c.in-Some.ensures) c.if-byte-2.false c.in_default.ensures c.if-knows_row.ensures

@@ -17,10 +17,10 @@ push-requires c = room_for c.requires (listed c.loop-symbol.known) (known_of c.i
 
 pub loop-symbol-preserved : goal.loop-symbol-preserved
 loop-symbol-preserved c =
-    elim c.match-try-step.branch [
-      | in-Right w ↦ stays c.loop-symbol.known c.match-try-step.known w.known-is w.in-Right.ensures c.loop-symbol.invariant.1
+    elim c.match-try_step.branch [
+      | in-Right w ↦ stays c.loop-symbol.known c.match-try_step.known w.known-is w.in-Right.ensures c.loop-symbol.invariant.1
       | in-New w ↦
-          grows c.loop-symbol.known w.push.new.self c.match-try-step.known (known_of w.in-New.found)
+          grows c.loop-symbol.known w.push.new.self c.match-try_step.known (known_of w.in-New.found)
           w.known-is w.push.ensures w.in-New.ensures c.loop-symbol.invariant.1
     ]
 

@@ -21,7 +21,7 @@ returns-in-Err c =
     let b = c.args.sheet.now in
     let xs = c.args.text.now in
     let f = c.in-Err.fault in
-    IfOk-weaker c.refusal-of.result (λ out. string_bytes out ≡ refusal_line c.refusal.result ++ codes "\n")
+    IfOk-weaker c.refusal_of.result (λ out. string_bytes out ≡ refusal_line c.refusal.result ++ codes "\n")
     (λ out. Report b xs (string_bytes out))
     (λ out p. Report.refused f c.in-Err.ensures (p ∙ ap (λ r. refusal_line r ++ codes "\n") c.refusal.ensures))
-    c.refusal-of.ensures
+    c.refusal_of.ensures

@@ -5,13 +5,13 @@ use Rattle.built_states.proofs.Growing.{tried_none, met_turn, new_turn, many_tur
 use Rattle.built_states.proofs.building.Building.add_step.Goals as goal
 use Rattle.built_states.proofs.building.Building.add_step.Goals.{then-target-slot, else-target-slot}
 
-pub returns-in-default : goal.returns-in-default
-returns-in-default c =
+pub returns-in_default : goal.returns-in_default
+returns-in_default c =
     let b = c.args.self.now in
     record {
       cases =
           tried_none (meaning c.args.grammar.now) b.count b.rows b.steps c.args.i c.args.x c.requires.0 c.requires.1.0 c.requires.1.1
-          (symbols_few c.args.grammar.now) c.in-default.ensures;
+          (symbols_few c.args.grammar.now) c.in_default.ensures;
       grows = omega arith;
     }
 
@@ -22,31 +22,31 @@ returns-then-target-eq-MOST-STATES c =
     record {
       cases = (
         refl,
-        many_turn (meaning c.args.grammar.now) b c.complete-at.new.self c.args.i c.args.x c.in-Some.kernel c.requires.0 c.requires.1.0 c.requires.1.1
-            (symbols_few c.args.grammar.now) c.in-Some.ensures c.complete-at.ensures e (λ k h. c.place-of-target.ensures.first k (omega arith)),
+        many_turn (meaning c.args.grammar.now) b c.complete_at.new.self c.args.i c.args.x c.in-Some.kernel c.requires.0 c.requires.1.0 c.requires.1.1
+            (symbols_few c.args.grammar.now) c.in-Some.ensures c.complete_at.ensures e (λ k h. c.place_of-target.ensures.first k (omega arith)),
       );
-      grows = omega (arith, c.complete-at.ensures.count_same);
+      grows = omega (arith, c.complete_at.ensures.count_same);
     }
 
 pub returns : goal.returns
 returns c =
     let g = meaning c.args.grammar.now in
     let b = c.args.self.now in
-    let d = c.complete-at.new.self in
+    let d = c.complete_at.new.self in
     elim c.if-target-slot.branch [
       | then-target-slot w ↦
           let t =
           new_turn g b d c.args.i c.args.x c.in-Some.kernel c.requires.0 c.requires.1.0 c.requires.1.1 (symbols_few c.args.grammar.now)
-          c.in-Some.ensures c.complete-at.ensures c.if-target-slot.self c.place-of-target.result w.if-target-slot.true c.if-target-eq-MOST-STATES.false
-          c.place-of-target.ensures.first w.self-is
+          c.in-Some.ensures c.complete_at.ensures c.if-target-slot.self c.place_of-target.result w.if-target-slot.true c.if-target-eq-MOST-STATES.false
+          c.place_of-target.ensures.first w.self-is
           in
           record { cases = t.0; grows = t.1 }
       | else-target-slot w ↦
-          let h : c.place-of-target.result < b.count = omega (arith, c.place-of-target.ensures.within, w.if-target-slot.false) in
+          let h : c.place_of-target.result < b.count = omega (arith, c.place_of-target.ensures.within, w.if-target-slot.false) in
           let t =
           met_turn g b d c.args.i c.args.x c.in-Some.kernel c.requires.0 c.requires.1.0 c.requires.1.1 (symbols_few c.args.grammar.now)
-          c.in-Some.ensures c.complete-at.ensures c.if-target-slot.self c.place-of-target.result h
-          c.place-of-target.ensures.same w.self-is
+          c.in-Some.ensures c.complete_at.ensures c.if-target-slot.self c.place_of-target.result h
+          c.place_of-target.ensures.same w.self-is
           in
           record { cases = t.0; grows = t.1 }
     ]

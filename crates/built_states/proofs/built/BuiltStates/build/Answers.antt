@@ -5,11 +5,11 @@ use Rattle.table_format.proofs.Counting.{set_count}
 use Rattle.built_states.proofs.Growing.{finished, not_many}
 use Rattle.built_states.proofs.built.BuiltStates.build.Goals as goal
 
-pub invariant-of-result : goal.invariant-of-result
-invariant-of-result c =
-    (∣ finished (meaning c.args.grammar.now) c.in-ok-count.field-0 (right_sides c.args.grammar.now) c.in-ok-count.ensures ∣₁, tt)
+pub invariant_of-result : goal.invariant_of-result
+invariant_of-result c =
+    (∣ finished (meaning c.args.grammar.now) c.in_ok-count.field-0 (right_sides c.args.grammar.now) c.in_ok-count.ensures ∣₁, tt)
 
 pub returns : goal.returns
 returns c =
-    let f = finished (meaning c.args.grammar.now) c.in-ok-count.field-0 (right_sides c.args.grammar.now) c.in-ok-count.ensures in
+    let f = finished (meaning c.args.grammar.now) c.in_ok-count.field-0 (right_sides c.args.grammar.now) c.in_ok-count.ensures in
     record { over_grammar = refl; built = f; counted = set_count f.matched; not_many = not_many f }

@@ -4,35 +4,35 @@ use Rattle.built_states.proofs.built.BuiltStates.sheet_byte.Goals as goal
 
 pub bounds-self-cell : goal.bounds-self-cell
 bounds-self-cell c =
-    step_place c.args.self.now c.args.offset c.symbols-symbols.result (omega arith) (omega (arith, c.marks-at-marks.ensures.value)) c.symbols-symbols.ensures
+    step_place c.args.self.now c.args.offset c.symbols-symbols.result (omega arith) (omega (arith, c.marks_at-marks.ensures.value)) c.symbols-symbols.ensures
 
 pub nonzero-div-cell : goal.nonzero-div-cell
 nonzero-div-cell c =
     omega (
       arith,
-      (mark_cell c.args.self.now c.args.offset c.marks-at-marks.result c.from-rules.result (omega arith) c.requires
-          c.marks-at-marks.ensures.value (c.from-rules.ensures ∙ c.rules.ensures)).column_in,
+      (mark_cell c.args.self.now c.args.offset c.marks_at-marks.result c.from-rules.result (omega arith) c.requires
+          c.marks_at-marks.ensures.value (c.from-rules.ensures ∙ c.rules.ensures)).column_in,
     )
 
 pub offset-bounds-self-cell : goal.offset-bounds-self-cell
 offset-bounds-self-cell c =
     omega (
       arith,
-      mark_place c.args.self.now c.args.offset c.marks-at-marks.result c.from-rules.result (omega arith) c.requires
-          c.marks-at-marks.ensures.value (c.from-rules.ensures ∙ c.rules.ensures),
+      mark_place c.args.self.now c.args.offset c.marks_at-marks.result c.from-rules.result (omega arith) c.requires
+          c.marks_at-marks.ensures.value (c.from-rules.ensures ∙ c.rules.ensures),
     )
 
 pub bounds-self-cell-else-offset-marks : goal.bounds-self-cell-else-offset-marks
 bounds-self-cell-else-offset-marks c =
-    mark_place c.args.self.now c.args.offset c.marks-at-marks.result c.from-rules.result (omega arith) c.requires
-    c.marks-at-marks.ensures.value (c.from-rules.ensures ∙ c.rules.ensures)
+    mark_place c.args.self.now c.args.offset c.marks_at-marks.result c.from-rules.result (omega arith) c.requires
+    c.marks_at-marks.ensures.value (c.from-rules.ensures ∙ c.rules.ensures)
 
 pub nonzero-rem-cell : goal.nonzero-rem-cell
 nonzero-rem-cell c =
     omega (
       arith,
-      (mark_cell c.args.self.now c.args.offset c.marks-at-marks.result c.from-rules.result (omega arith) c.requires
-          c.marks-at-marks.ensures.value (c.from-rules.ensures ∙ c.rules.ensures)).column_in,
+      (mark_cell c.args.self.now c.args.offset c.marks_at-marks.result c.from-rules.result (omega arith) c.requires
+          c.marks_at-marks.ensures.value (c.from-rules.ensures ∙ c.rules.ensures)).column_in,
     )
 
 pub returns-then-offset-lt12 : goal.returns-then-offset-lt12
@@ -40,9 +40,9 @@ returns-then-offset-lt12 c = header_read c.args.self.now c.args.offset c.header.
 
 pub returns-then-offset-marks : goal.returns-then-offset-marks
 returns-then-offset-marks c =
-    step_read_at c.args.self.now c.args.offset c.symbols-symbols.result (omega arith) (omega (arith, c.marks-at-marks.ensures.value)) c.symbols-symbols.ensures (omega arith)
+    step_read_at c.args.self.now c.args.offset c.symbols-symbols.result (omega arith) (omega (arith, c.marks_at-marks.ensures.value)) c.symbols-symbols.ensures (omega arith)
 
 pub returns-else-offset-marks : goal.returns-else-offset-marks
 returns-else-offset-marks c =
-    mark_read_at c.args.self.now c.args.offset c.marks-at-marks.result c.from-rules.result (omega arith) c.requires
-    c.marks-at-marks.ensures.value (c.from-rules.ensures ∙ c.rules.ensures) c.is-done.result c.is-done.ensures
+    mark_read_at c.args.self.now c.args.offset c.marks_at-marks.result c.from-rules.result (omega arith) c.requires
+    c.marks_at-marks.ensures.value (c.from-rules.ensures ∙ c.rules.ensures) c.is_done.result c.is_done.ensures

@@ -10,6 +10,6 @@ returns c =
     let r = c.from-2.ensures ∙ c.rules.ensures in
     let e : c.from.result * c.from-2.result ≡ b.count * rule_count (meaning b.grammar) = rw (c.from.ensures, r) in
     record {
-      value = omega (arith, sheet_length b, c.marks-at.ensures.value);
-      bound = omega (arith, ends_few b, c.marks-at.ensures.bound);
+      value = omega (arith, sheet_length b, c.marks_at.ensures.value);
+      bound = omega (arith, ends_few b, c.marks_at.ensures.bound);
     }

@@ -14,6 +14,6 @@ returns-then-state-self c =
 pub returns : goal.returns
 returns c =
     let b = c.args.self.now in
-    c.is-done.ensures
+    c.is_done.ensures
     ∙ ap₂ (λ (s r : ℕ). ltb r (rule_count (meaning b.grammar)) && row_items b.rows s r (length (rhs (meaning b.grammar) r))) c.from.ensures c.from-2.ensures
     ∙ done_is (meaning b.grammar) (table b) (row_items b.rows) c.args.state c.args.rule _ (omega arith) refl

@@ -6,14 +6,14 @@ use Rattle.grammar.specs.Marking.{Ranged}
 use Rattle.grammar.proofs.Assembling.{ranged_at, rules_front, rule_front, unproductive_fault, all_kept, all_held, refused}
 use Rattle.grammar.proofs.grammar.Grammar.read.Goals as goal
 
-pub returns-in-err-header : goal.returns-in-err-header
-returns-in-err-header c =
-    let p = err_from_is_err_and c.from-residual.result c.from-residual.ensures.1 in
-    rw (p.1, p.2) (refused c.args.sheet.now c.in-err-header.field-0.0 c.in-err-header.ensures)
+pub returns-in_err-header : goal.returns-in_err-header
+returns-in_err-header c =
+    let p = err_from_is_err_and c.from_residual.result c.from_residual.ensures.1 in
+    rw (p.1, p.2) (refused c.args.sheet.now c.in_err-header.field-0.0 c.in_err-header.ensures)
 
-pub first-unproductive-requires : goal.first-unproductive-requires
-first-unproductive-requires c =
-    let read = c.in-ok-header.ensures in
+pub first_unproductive-requires : goal.first_unproductive-requires
+first_unproductive-requires c =
+    let read = c.in_ok-header.ensures in
     let head = read.headed in
     let n = c.from.result - 0 in
     let e : n ≡ rules c.args.sheet.now = omega (arith, head.rules_are) in (
@@ -36,28 +36,25 @@ returns-in-Some c =
     (unproductive_fault head read.rules_read n e c.in_ok-header.field-0.header.terminals c.in_ok-header.field-0.header.nonterminals
     head.terminals_are head.nonterminals_are read.clean c.in-Some.nonterminal c.in-Some.ensures)
 
-pub invariant-of-result : goal.invariant-of-result
-invariant-of-result c =
-    let read = c.in-ok-header.ensures in
+pub invariant_of-result : goal.invariant_of-result
+invariant_of-result c =
+    let read = c.in_ok-header.ensures in
     let head = read.headed in
-    let bytes : Bytes c.args.sheet.now = λ k. omega (arith, c.type-inv.sheet k) in
+    let bytes : Bytes c.args.sheet.now = λ k. omega (arith, c.type_inv.sheet k) in
     let n = c.from.result - 0 in
-    let e : n ≡ rules c.args.sheet.now = omega (arith, head.rules_are) in (
-      omega (arith, head.terminals_are, head.counted.few_terminals),
-      (
-        omega (arith, head.nonterminals_are, head.counted.few_nonterminals),
-        (
-          omega (arith, head.rules_are, head.counted.few_rules),
-          (∣ all_held bytes read n e c.in-default.ensures ∣₁, tt),
-        ),
-      ),
-    )
+    let e : n ≡ rules c.args.sheet.now = omega (arith, head.rules_are) in
+    record {
+      few_terminals = omega (arith, head.terminals_are, head.counted.few_terminals);
+      few_nonterminals = omega (arith, head.nonterminals_are, head.counted.few_nonterminals);
+      few_rules = omega (arith, head.rules_are, head.counted.few_rules);
+      held = ∣ all_held bytes read n e c.in_default.ensures ∣₁;
+    }
 
 pub returns : goal.returns
 returns c =
     let read = c.in_ok-header.ensures in
-    let bytes : Bytes c.args.sheet.now = λ k. omega (arith, c.type-inv.sheet k) in
+    let bytes : Bytes c.args.sheet.now = λ k. omega (arith, c.type_inv.sheet k) in
     let n = c.from.result - 0 in
     let e : n ≡ rules c.args.sheet.now = omega (arith, read.headed.rules_are) in
-    let all = all_kept bytes read n e c.in-default.ensures in
+    let all = all_kept bytes read n e c.in_default.ensures in
     record { kept = all.0; same = all.1 }

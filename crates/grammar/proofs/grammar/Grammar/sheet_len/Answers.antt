@@ -5,11 +5,11 @@ use Rattle.grammar.proofs.Held.{held}
 use Rattle.grammar.proofs.Pieces.{spellings_next, piece_size, size_is, size_few}
 use Rattle.grammar.proofs.grammar.Grammar.sheet_len.Goals as goal
 
-pub overflow-add-need-in-loop-t : goal.overflow-add-need-in-loop-t
-overflow-add-need-in-loop-t c = omega (arith, ((held c.args.self.now).fitted c.loop-t.t (omega arith)).short)
+pub overflow_add-need-in-loop-t : goal.overflow_add-need-in-loop-t
+overflow_add-need-in-loop-t c = omega (arith, ((held c.args.self.now).fitted c.loop-t.t (omega arith)).short)
 
-pub overflow-add-need-in-loop-t-2 : goal.overflow-add-need-in-loop-t-2
-overflow-add-need-in-loop-t-2 c =
+pub overflow_add-need-in-loop-t-2 : goal.overflow_add-need-in-loop-t-2
+overflow_add-need-in-loop-t-2 c =
     omega (arith, ((held c.args.self.now).fitted c.loop-t.t (omega arith)).short, c.loop-t.invariant.1, c.args.self.now.few_terminals)
 
 pub loop-t-preserved : goal.loop-t-preserved

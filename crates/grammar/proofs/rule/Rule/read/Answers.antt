@@ -3,8 +3,8 @@ use Rattle.std.proofs.lemmas.List.{length-set}
 use Rattle.grammar.proofs.Blocks.{strays, right_more, block_is, all_stand}
 use Rattle.grammar.proofs.rule.Rule.read.Goals as goal
 
-pub returns-then-not-may-stand : goal.returns-then-not-may-stand
-returns-then-not-may-stand c = strays c.args.block.now c.loop-d.d (omega arith) c.if-not-may-stand.ensures
+pub returns-then-not-may_stand : goal.returns-then-not-may_stand
+returns-then-not-may_stand c = strays c.args.block.now c.loop-d.d (omega arith) c.if-not-may_stand.ensures
 
 pub loop-d-preserved : goal.loop-d-preserved
 loop-d-preserved c = (

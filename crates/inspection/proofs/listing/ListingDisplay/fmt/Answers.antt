@@ -11,8 +11,8 @@ returns-clause-writes g c = λ plain ok.
     let t = c.terminals-terminals.result in
     let n = c.nonterminals-nonterminals.result in
     let r = c.rules-rules.result in
-    let u = c.saturating-add.result in
+    let u = c.saturating_add.result in
     has_written_of_eq g.W.Write.write_str_gives c.args.f.now (listing_by s t u n r) (listing s) c.write.new.self
-    (listing_is s t u n r c.terminals-terminals.ensures c.nonterminals-nonterminals.ensures c.rules-rules.ensures c.saturating-add.ensures
+    (listing_is s t u n r c.terminals-terminals.ensures c.nonterminals-nonterminals.ensures c.rules-rules.ensures c.saturating_add.ensures
     h.few_terminals h.few_nonterminals)
     (c.write.ensures.shows plain ok)

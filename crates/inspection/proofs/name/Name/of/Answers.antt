@@ -29,7 +29,7 @@ returns-then-symbol-right c =
     let g = c.args.grammar.now in
     let x = c.args.symbol in
     let i : c.from.result ≡ x = c.from.ensures in
-    let past = spelled_none (sheet g) c.from.result c.in-default.ensures in
+    let past = spelled_none (sheet g) c.from.result c.in_default.ensures in
     let e : x ≡ start (meaning g) = c.if-symbol-right.true ∙ (c.right.ensures ∙ start_kept g) in
     sym (named_start (sheet g) x c.if-symbol-eq0.false (omega arith) (λ h. c.if-symbol-terminals.false (h ∙ sym c.terminals.ensures)) e)
 
@@ -38,6 +38,6 @@ returns c =
     let g = c.args.grammar.now in
     let x = c.args.symbol in
     let i : c.from.result ≡ x = c.from.ensures in
-    let past = spelled_none (sheet g) c.from.result c.in-default.ensures in
+    let past = spelled_none (sheet g) c.from.result c.in_default.ensures in
     let e : x ≢ start (meaning g) = λ h. c.if-symbol-right.false (h ∙ sym (c.right.ensures ∙ start_kept g)) in
     sym (named_other (sheet g) x c.if-symbol-eq0.false (omega arith) (λ h. c.if-symbol-terminals.false (h ∙ sym c.terminals.ensures)) e)

@@ -14,10 +14,10 @@ returns-then-length-eq0-clause-writes g c =
     let s = sheet c.args.self.now.grammar.now in
     let r = c.args.self.now.rule in
     let xs = rhs s.grammar r in
-    shows_if g.W.Write.write_str_gives c.args.f.now _ c.write-str.result (ltb r (rule_count s.grammar)) (right_text s xs)
+    shows_if g.W.Write.write_str_gives c.args.f.now _ c.write_str.result (ltb r (rule_count s.grammar)) (right_text s xs)
     (λ here plain ok.
     let none : length xs ≡ 0 = grind (arith, nat_tests) in
-    has_written_of_eq g.W.Write.write_str_gives _ _ _ _ (right_none s xs none) (c.write-str.ensures.writes plain ok))
+    has_written_of_eq g.W.Write.write_str_gives _ _ _ _ (right_none s xs none) (c.write_str.ensures.writes plain ok))
 
 pub loop-place-preserved : goal.loop-place-preserved
 loop-place-preserved g c = λ here plain.
@@ -28,7 +28,7 @@ loop-place-preserved g c = λ here plain.
     let before = c.loop-place.invariant here plain in
     right_more g.W.Write.write_str_gives c.args.f.now c.loop-place.f c.write.new.self s xs c.loop-place.place c.right.result
     (called c.of-symbol.result) some x
-    c.of-symbol.ensures before (c.in-ok-write.ensures.shows before.plain refl)
+    c.of-symbol.ensures before (c.in_ok-write.ensures.shows before.plain refl)
 
 pub returns-clause-writes : goal.returns-clause-writes
 returns-clause-writes g c =

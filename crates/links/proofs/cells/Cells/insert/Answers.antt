@@ -14,8 +14,8 @@ returns-then-self-c c = inserted_there (present c.args.self.now c.args.c c.if-se
 pub bounds-self-n : goal.bounds-self-n
 bounds-self-n c = let e = size c.args.self.now in let h = c.requires (absent c.args.self.now c.args.c c.if-self-c.false) in omega arith
 
-pub invariant-of-self : goal.invariant-of-self
-invariant-of-self c =
+pub invariant_of-self : goal.invariant_of-self
+invariant_of-self c =
     let s = c.args.self.now in
     let x = c.args.c in
     let none = absent s x c.if-self-c.false in

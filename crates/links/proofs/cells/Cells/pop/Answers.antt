@@ -7,8 +7,8 @@ use Rattle.links.proofs.Lists.{mark_less, once_distinct, once_last}
 use Rattle.links.proofs.Members.{each_once}
 use Rattle.links.proofs.cells.Cells.pop.Goals as goal
 
-pub invariant-of-self : goal.invariant-of-self
-invariant-of-self c =
+pub invariant_of-self : goal.invariant_of-self
+invariant_of-self c =
     let s = c.args.self.now in
     let n = s.count - 1 in
     let x = get_or s.list n 0 in

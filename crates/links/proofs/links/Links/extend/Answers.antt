@@ -16,5 +16,5 @@ returns g c =
     record {
       kept = k.kept;
       grown = k.grown;
-      cases = both c.close.result c.close.ensures.cases (extended_stepped a b c.in-ok-shift.ensures.cases) (extended_overfull a);
+      cases = both c.close.result c.close.ensures.cases (extended_stepped a b c.in_ok-shift.ensures.cases) (extended_overfull a);
     }

@@ -19,7 +19,7 @@ fire-requires g c =
     let laid = laid_from t c.args.from c.requires.since c.requires.until in
     record {
       bound = c.requires.bound;
-      allowed = subst (λ v. Ends src v 0 (cells_of c.seed-tops.new.here) (content t) (Makes src None t.place (content t))) (sym left) (empty_allowed laid c.requires.rule (size ∙ c.if-length-eq0.true) c.seed-tops.ensures);
+      allowed = subst (λ v. Ends src v 0 (cells_of c.seed_tops.new.here) (content t) (Makes src None t.place (content t))) (sym left) (empty_allowed laid c.requires.rule (size ∙ c.if-length-eq0.true) c.seed_tops.ensures);
     }
 
 pub returns-then-length-eq0 : goal.returns-then-length-eq0
@@ -34,8 +34,8 @@ returns-then-length-eq0 g c =
       kept = c.fire.ensures.kept;
       grown = c.fire.ensures.grown;
       cases = both c.fire.result c.fire.ensures.cases
-          (λ e. empty_fired laid c.requires.rule (size ∙ c.if-length-eq0.true) c.requires.before c.fire.ensures.grown c.seed-tops.ensures
-          (subst (λ z. Ends src z 0 (cells_of c.seed-tops.new.here) (content t) (λ s b i. Has (content v) s t.place b i)) left e))
+          (λ e. empty_fired laid c.requires.rule (size ∙ c.if-length-eq0.true) c.requires.before c.fire.ensures.grown c.seed_tops.ensures
+          (subst (λ z. Ends src z 0 (cells_of c.seed_tops.new.here) (content t) (λ s b i. Has (content v) s t.place b i)) left e))
           (λ o. o);
     }
 
@@ -50,8 +50,8 @@ descend-requires g c =
     let laid = laid_from t c.args.from c.requires.since c.requires.until in
     record {
       bound = c.requires.bound;
-      allowed = subst (λ v. Ends src v m (cells_of c.seed-below.new.here) (content t) (Makes src None t.place (content t))) (sym left)
-          (long_allowed laid c.requires.rule m long (picked_content src t c.args.rule c.args.from c.seed-below.ensures));
+      allowed = subst (λ v. Ends src v m (cells_of c.seed_below.new.here) (content t) (Makes src None t.place (content t))) (sym left)
+          (long_allowed laid c.requires.rule m long (picked_content src t c.args.rule c.args.from c.seed_below.ensures));
     }
 
 pub returns : goal.returns
@@ -68,7 +68,7 @@ returns g c =
       kept = c.descend.ensures.kept;
       grown = c.descend.ensures.grown;
       cases = both c.descend.result c.descend.ensures.cases
-          (λ e. long_fired laid c.requires.rule m long c.requires.fresh c.requires.before c.descend.ensures.grown (picked_content src t c.args.rule c.args.from c.seed-below.ensures)
-          (subst (λ z. Ends src z m (cells_of c.seed-below.new.here) (content t) (λ s b i. Has (content v) s t.place b i)) left e))
+          (λ e. long_fired laid c.requires.rule m long c.requires.fresh c.requires.before c.descend.ensures.grown (picked_content src t c.args.rule c.args.from c.seed_below.ensures)
+          (subst (λ z. Ends src z m (cells_of c.seed_below.new.here) (content t) (λ s b i. Has (content v) s t.place b i)) left e))
           (λ o. o);
     }

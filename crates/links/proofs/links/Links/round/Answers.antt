@@ -25,16 +25,16 @@ pub loop-rule-preserved : goal.loop-rule-preserved
 loop-rule-preserved g c =
     let src = g.S.StateSource.meaning c.args.source.now in
     let a : Along src None c.loop-rule.self.table c.reduce.new.self.table c.args.limit = record { kept = c.reduce.ensures.kept; grown = c.reduce.ensures.grown } in
-    one_rule c.loop-rule.invariant a c.in-ok-reduce.ensures.cases
+    one_rule c.loop-rule.invariant a c.in_ok-reduce.ensures.cases
 
-pub returns-in-err-reduce : goal.returns-in-err-reduce
-returns-in-err-reduce g c =
+pub returns-in_err-reduce : goal.returns-in_err-reduce
+returns-in_err-reduce g c =
     let src = g.S.StateSource.meaning c.args.source.now in
     let a : Along src None c.loop-rule.self.table c.reduce.new.self.table c.args.limit = record { kept = c.reduce.ensures.kept; grown = c.reduce.ensures.grown } in
     let b : Along src None c.args.self.now.table c.reduce.new.self.table c.args.limit = along_more c.loop-rule.invariant.along a in
-    let e = err_from_is_err_and c.from-residual.result c.from-residual.ensures.1 in
+    let e = err_from_is_err_and c.from_residual.result c.from_residual.ensures.1 in
     record {
       kept = b.kept;
       grown = b.grown;
-      cases = rw e.1 (along_overfull c.loop-rule.invariant.along c.in-err-reduce.ensures.cases);
+      cases = rw e.1 (along_overfull c.loop-rule.invariant.along c.in_err-reduce.ensures.cases);
     }

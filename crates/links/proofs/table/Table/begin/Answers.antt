@@ -2,8 +2,8 @@ use Rattle.std.proofs.Common.{◌≡◌, ℕ, ◌+◌, ◌<◌, ◌≤◌, lengt
 use Rattle.links.proofs.Changes.{begin_within, begin_under, begin_over}
 use Rattle.links.proofs.table.Table.begin.Goals as goal
 
-pub invariant-of-self : goal.invariant-of-self
-invariant-of-self c =
+pub invariant_of-self : goal.invariant_of-self
+invariant_of-self c =
     let t = c.args.self.now in
     let p = t.place + 1 in
     let slot : p < length t.starts = omega (arith, t.slots, c.requires) in (

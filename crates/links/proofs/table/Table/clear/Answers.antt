@@ -2,8 +2,8 @@ use Rattle.std.proofs.Common.{arith}
 use Rattle.links.proofs.Changes.{no_start}
 use Rattle.links.proofs.table.Table.clear.Goals as goal
 
-pub invariant-of-self : goal.invariant-of-self
-invariant-of-self c =
+pub invariant_of-self : goal.invariant_of-self
+invariant_of-self c =
     let t = c.args.self.now in (
       t.room,
       (

@@ -2,11 +2,11 @@ use Rattle.std.proofs.Common.{◌≡◌, sym, refl, arith, take-take}
 use Rattle.links.proofs.Changes.{cut_within}
 use Rattle.links.proofs.table.Table.cut.Goals as goal
 
-pub invariant-of-self : goal.invariant-of-self
-invariant-of-self c =
+pub invariant_of-self : goal.invariant_of-self
+invariant_of-self c =
     let t = c.args.self.now in
-    let n = c.start-of-count.result in
-    let a = c.start-of-count.ensures in
+    let n = c.start_of-count.result in
+    let a = c.start_of-count.ensures in
     let w = a.within in (
       t.room,
       (
@@ -30,6 +30,6 @@ invariant-of-self c =
 pub returns : goal.returns
 returns c =
     let t = c.args.self.now in
-    let n = c.start-of-count.result in
-    let a = c.start-of-count.ensures in
+    let n = c.start_of-count.result in
+    let a = c.start_of-count.ensures in
     record { place = refl; start = a; front = sym (take-take n t.count t.links a.within) }

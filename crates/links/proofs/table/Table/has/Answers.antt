@@ -10,7 +10,7 @@ pub returns-then-same : goal.returns-then-same
 returns-then-same c =
     let t = c.args.self.now in
     record {
-      there = λ _. subst (λ v. Mem v (content t)) (c.if-same.ensures.equal refl) (member t c.loop-k.k (omega (arith, c.loop-k-test.true, c.start-of-end.ensures.within)));
+      there = λ _. subst (λ v. Mem v (content t)) (c.if-same.ensures.equal refl) (member t c.loop-k.k (omega (arith, c.loop-k-test.true, c.start_of-end.ensures.within)));
       absent = λ e. absurd (true≢false e);
     }
 
@@ -19,5 +19,5 @@ returns c =
     let t = c.args.self.now in
     record {
       there = λ e. absurd (false≢true e);
-      absent = λ _. not_there t c.args.link c.start-of-start.result c.start-of-end.result c.loop-k.k c.start-of-start.ensures c.start-of-end.ensures c.loop-k-test.false c.loop-k.invariant;
+      absent = λ _. not_there t c.args.link c.start_of-start.result c.start_of-end.result c.loop-k.k c.start_of-start.ensures c.start_of-end.ensures c.loop-k-test.false c.loop-k.invariant;
     }

@@ -7,8 +7,8 @@ use Rattle.links.proofs.Lists.{below_set}
 use Rattle.links.proofs.Changes.{add_under, add_over}
 use Rattle.links.proofs.table.Table.push.Goals as goal
 
-pub invariant-of-self : goal.invariant-of-self
-invariant-of-self c =
+pub invariant_of-self : goal.invariant_of-self
+invariant_of-self c =
     let t = c.args.self.now in
     let l = c.args.link in
     let room : t.count < length t.links = omega (arith, c.if-n-limit.false, c.requires.bound, t.room) in

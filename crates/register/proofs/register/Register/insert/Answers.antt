@@ -36,12 +36,12 @@ returns-else-self g c =
     let i = c.in-Err.place in
     let il : i ≤ length (held a) = subst (λ (zs : List g.row.T.Denot). i ≤ length zs) c.records.ensures c.in-Err.ensures.bound in
     record {
-      same = c.put-at.ensures.same;
+      same = c.put_at.ensures.same;
       had_room = (let w = a.within in let l = c.if-self.false in omega arith);
       place = i;
       place_in = il;
-      put = c.put-at.ensures.put;
-      order = λ o up. subst (λ (zs : List g.row.T.Denot). Climbs o zs) (sym c.put-at.ensures.put)
+      put = c.put_at.ensures.put;
+      order = λ o up. subst (λ (zs : List g.row.T.Denot). Climbs o zs) (sym c.put_at.ensures.put)
           (climbs_inserted o (held a) i c.args.x il up
           (subst (λ (zs : List g.row.T.Denot). IsNonDecreasingBy (λ y. ordering_index (o.cmp y c.args.x)) zs → PartedAt o zs c.args.x i) c.records.ensures
           (c.in-Err.ensures.position o) (rises_from_climbs o (held a) c.args.x up)));

@@ -5,7 +5,7 @@ use Rattle.rows.proofs.Completing.{led_through, completed}
 use Rattle.rows.proofs.row.Row.complete.Goals as goal
 
 pub loop-next-init : goal.loop-next-init
-loop-next-init c = (c.next-symbols-next.ensures, (λ r d k. k), λ r d k. kernel k)
+loop-next-init c = (c.next_symbols-next.ensures, (λ r d k. k), λ r d k. kernel k)
 
 pub loop-next-preserved : goal.loop-next-preserved
 loop-next-preserved c = (

@@ -8,7 +8,7 @@ pub returns : goal.returns
 returns c =
     record {
       moves =
-          told_next (meaning c.args.grammar.now) (items c.args.self.now) (member c.next-symbols.result) c.args.symbol
-          c.next-symbols.ensures (sym c.if-not-has.ensures);
+          told_next (meaning c.args.grammar.now) (items c.args.self.now) (member c.next_symbols.result) c.args.symbol
+          c.next_symbols.ensures (sym c.if-not-has.ensures);
       row = c.moved.ensures;
     }

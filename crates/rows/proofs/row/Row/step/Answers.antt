@@ -5,6 +5,6 @@ use Rattle.rows.proofs.row.Row.step.Goals as goal
 
 pub returns : goal.returns
 returns c =
-    let kernel = c.in-ok-row.ensures in
-    step_row (meaning c.args.grammar.now) (items c.args.self.now) c.args.symbol (items c.in-ok-row.row) (items c.complete.new.self)
+    let kernel = c.in_ok-row.ensures in
+    step_row (meaning c.args.grammar.now) (items c.args.self.now) c.args.symbol (items c.in_ok-row.row) (items c.complete.new.self)
     kernel.moves kernel.row c.complete.ensures

@@ -8,4 +8,4 @@ loop-k-init g c = links_none (g.S.StateSource.meaning c.args.source.now) c.args.
 pub loop-k-preserved : goal.loop-k-preserved
 loop-k-preserved g c =
     links_more (g.S.StateSource.meaning c.args.source.now) c.args.links.now (told c.args.self.now.cells)
-    (told c.loop-k.self.cells) (told c.add-link.new.self.cells) c.loop-k.k c.loop-k.invariant c.add-link.ensures
+    (told c.loop-k.self.cells) (told c.add_link.new.self.cells) c.loop-k.k c.loop-k.invariant c.add_link.ensures

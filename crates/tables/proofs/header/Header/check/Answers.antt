@@ -3,13 +3,13 @@ use Rattle.std.proofs.lemmas.Result.{err_from_is_err_and}
 use Rattle.tables.proofs.Heads.{clean_placed, laid_headed, formed}
 use Rattle.tables.proofs.header.Header.check.Goals as goal
 
-pub check-bytes-requires : goal.check-bytes-requires
-check-bytes-requires c = laid_headed c.in-ok-header.ensures
+pub check_bytes-requires : goal.check_bytes-requires
+check_bytes-requires c = laid_headed c.in_ok-header.ensures
 
-pub returns-in-err-check-bytes : goal.returns-in-err-check-bytes
-returns-in-err-check-bytes c =
-    let p = err_from_is_err_and c.from-residual-in-err-check-bytes.result c.from-residual-in-err-check-bytes.ensures.1 in
-    rw (p.1, p.2) (c.in-err-check-bytes.ensures (meaning c.args.grammar.now) (clean_placed c.in-ok-header.ensures))
+pub returns-in_err-check_bytes : goal.returns-in_err-check_bytes
+returns-in_err-check_bytes c =
+    let p = err_from_is_err_and c.from_residual-in_err-check_bytes.result c.from_residual-in_err-check_bytes.ensures.1 in
+    rw (p.1, p.2) (c.in_err-check_bytes.ensures (meaning c.args.grammar.now) (clean_placed c.in_ok-header.ensures))
 
 pub returns : goal.returns
-returns c = formed c.in-ok-header.ensures c.in-ok-check-bytes.ensures
+returns c = formed c.in_ok-header.ensures c.in_ok-check_bytes.ensures

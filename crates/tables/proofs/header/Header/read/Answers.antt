@@ -4,14 +4,14 @@ use Rattle.std.proofs.lemmas.Result.{err_from_is_err_and}
 use Rattle.tables.proofs.Heads.{clean_counted}
 use Rattle.tables.proofs.header.Header.read.Goals as goal
 
-pub returns-in-err-check-length : goal.returns-in-err-check-length
-returns-in-err-check-length c =
-    let p = err_from_is_err_and c.from-residual.result c.from-residual.ensures.1 in
-    rw (p.1, p.2) (c.in-err-check-length.ensures (meaning c.args.grammar.now) clean_start)
+pub returns-in_err-check_length : goal.returns-in_err-check_length
+returns-in_err-check_length c =
+    let p = err_from_is_err_and c.from_residual.result c.from_residual.ensures.1 in
+    rw (p.1, p.2) (c.in_err-check_length.ensures (meaning c.args.grammar.now) clean_start)
 
-pub returns-in-err-check-offsets : goal.returns-in-err-check-offsets
-returns-in-err-check-offsets c =
-    let p = err_from_is_err_and c.from-residual-in-err-check-offsets.result c.from-residual-in-err-check-offsets.ensures.1 in
+pub returns-in_err-check_offsets : goal.returns-in_err-check_offsets
+returns-in_err-check_offsets c =
+    let p = err_from_is_err_and c.from_residual-in_err-check_offsets.result c.from_residual-in_err-check_offsets.ensures.1 in
     rw (p.1, p.2)
-    (c.in-err-check-offsets.ensures (meaning c.args.grammar.now)
-    (clean_counted (meaning c.args.grammar.now) c.args.sheet.now c.in-ok-check-length.ensures c.in-ok-header.ensures.0))
+    (c.in_err-check_offsets.ensures (meaning c.args.grammar.now)
+    (clean_counted (meaning c.args.grammar.now) c.args.sheet.now c.in_ok-check_length.ensures c.in_ok-header.ensures.0))

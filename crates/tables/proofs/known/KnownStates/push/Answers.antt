@@ -7,8 +7,8 @@ use Rattle.tables.proofs.known.KnownStates.push.Goals as goal
 pub bounds-self-self : goal.bounds-self-self
 bounds-self-self c = omega (arith, len_is c.args.self.now, c.requires)
 
-pub invariant-of-self : goal.invariant-of-self
-invariant-of-self c =
+pub invariant_of-self : goal.invariant_of-self
+invariant_of-self c =
     let few : c.args.self.now.count + 1 ≤ 255 = omega (arith, len_is c.args.self.now, c.requires) in (
       length-set c.args.self.now.list c.args.self.now.count c.args.known ∙ c.args.self.now.room,
       (few, tt),

@@ -3,10 +3,10 @@ use Rattle.std.proofs.lemmas.List.{take_at}
 use Rattle.std.proofs.lemmas.Slice.{overwrites}
 use Rattle.tables.proofs.sheet.Sheet.hold.Goals as goal
 
-pub invariant-of-result : goal.invariant-of-result
-invariant-of-result c = (search (rules, overwrites), (c.requires, tt))
+pub invariant_of-result : goal.invariant_of-result
+invariant_of-result c = (search (rules, overwrites), (c.requires, tt))
 
 pub returns : goal.returns
 returns c =
-    take_at c.copy-from-slice.new.self _ (length c.args.bytes.now) (ap length c.copy-from-slice.ensures.after)
-    ∙ c.copy-from-slice.ensures.after
+    take_at c.copy_from_slice.new.self _ (length c.args.bytes.now) (ap length c.copy_from_slice.ensures.after)
+    ∙ c.copy_from_slice.ensures.after

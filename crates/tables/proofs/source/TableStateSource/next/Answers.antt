@@ -20,4 +20,4 @@ returns-then-next c =
 pub returns : goal.returns
 returns c =
     next_some c.args.self.now c.args.state c.args.symbol c.step-next.result c.if-state-header.false c.if-symbol-header.false
-    (c.step-next.ensures ∙ ap (λ (xs : List ℕ). (table_of xs).step c.args.state c.args.symbol) c.bytes.ensures) c.step-next.type-inv c.if-next.false
+    (c.step-next.ensures ∙ ap (λ (xs : List ℕ). (table_of xs).step c.args.state c.args.symbol) c.bytes.ensures) c.step-next.type_inv c.if-next.false

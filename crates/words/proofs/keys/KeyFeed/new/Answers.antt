@@ -14,5 +14,5 @@ returns c =
       coming = ap (λ T. key_coming T 0 xs) c.terminals.ensures;
       orderly =
           subst (λ T. Orderly g.terminals (length xs) (key_coming T 0 xs)) (sym c.terminals.ensures)
-          (keys_orderly g.terminals xs (held g).kept.some_terminals (All-from_get_or (λ b. b < 256) xs 0 (λ i _. omega (arith, c.type-inv.keys i))));
+          (keys_orderly g.terminals xs (held g).kept.some_terminals (All-from_get_or (λ b. b < 256) xs 0 (λ i _. omega (arith, c.type_inv.keys i))));
     }

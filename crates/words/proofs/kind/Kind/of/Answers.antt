@@ -18,10 +18,10 @@ pub returns-in-0-to-9 : goal.returns-in-0-to-9
 unfolding is_blank opens_remark ends_remark is_digit
 returns-in-0-to-9 c = search rules
 
-pub returns-in-default : goal.returns-in-default
+pub returns-in_default : goal.returns-in_default
 unfolding is_blank opens_remark ends_remark is_digit
-returns-in-default c = search rules
+returns-in_default c = search rules
 
-pub returns-in-default·2 : goal.returns-in-default·2
+pub returns-in_default·2 : goal.returns-in_default·2
 unfolding is_blank opens_remark ends_remark is_digit
-returns-in-default·2 c = search rules
+returns-in_default·2 c = search rules

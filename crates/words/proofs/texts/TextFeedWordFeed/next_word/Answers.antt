@@ -9,34 +9,34 @@ use Rattle.words.proofs.texts.TextFeedWordFeed.next_word.Goals as goal
 pub returns-then-from-self : goal.returns-then-from-self
 returns-then-from-self c =
     let f = c.args.self.now in
-    text_end (sheet f.grammar.now) f.text.now f.place c.run-start-from.result c.run-start-from.ensures.same (omega arith)
+    text_end (sheet f.grammar.now) f.text.now f.place c.run_start-from.result c.run_start-from.ensures.same (omega arith)
 
-pub read-run-requires : goal.read-run-requires
-read-run-requires c =
+pub read_run-requires : goal.read_run-requires
+read_run-requires c =
     let xs = c.args.self.now.text.now in
-    let i = c.run-start-from.result in
-    let h : i < length xs = omega (arith, c.run-start-from.ensures.within) in
-    let b = c.run-start-from.ensures.begins h in
-    (omega (arith, first_run_some xs i h b.0 b.1, c.run-end-to.ensures.value), c.run-end-to.ensures.within)
+    let i = c.run_start-from.result in
+    let h : i < length xs = omega (arith, c.run_start-from.ensures.within) in
+    let b = c.run_start-from.ensures.begins h in
+    (omega (arith, first_run_some xs i h b.0 b.1, c.run_end-to.ensures.value), c.run_end-to.ensures.within)
 
-pub returns-in-err-word : goal.returns-in-err-word
-returns-in-err-word c =
+pub returns-in_err-word : goal.returns-in_err-word
+returns-in_err-word c =
     let f = c.args.self.now in
     let xs = f.text.now in
-    let i = c.run-start-from.result in
-    let j = c.run-end-to.result in
-    let h : i < length xs = omega (arith, c.run-start-from.ensures.within) in
-    let b = c.run-start-from.ensures.begins h in
-    let e = err_is _ _ c.from-residual.ensures in
+    let i = c.run_start-from.result in
+    let j = c.run_end-to.result in
+    let h : i < length xs = omega (arith, c.run_start-from.ensures.within) in
+    let b = c.run_start-from.ensures.begins h in
+    let e = err_is _ _ c.from_residual.ensures in
     subst (λ r. Handed (text_feed_coming f) r (text_feed_coming (record { grammar = f.grammar; text = f.text; place = i }))) (sym e)
-    (text_fault (sheet f.grammar.now) xs f.place i c.run-start-from.ensures.same j (record { from = i; bytes = take (j - i) (drop i xs) }) (runs_first xs i h b.0 b.1 j c.run-end-to.ensures.value) _ (sym c.in-err-word.ensures))
+    (text_fault (sheet f.grammar.now) xs f.place i c.run_start-from.ensures.same j (record { from = i; bytes = take (j - i) (drop i xs) }) (runs_first xs i h b.0 b.1 j c.run_end-to.ensures.value) _ (sym c.in_err-word.ensures))
 
 pub returns : goal.returns
 returns c =
     let f = c.args.self.now in
     let xs = f.text.now in
-    let i = c.run-start-from.result in
-    let j = c.run-end-to.result in
-    let h : i < length xs = omega (arith, c.run-start-from.ensures.within) in
-    let b = c.run-start-from.ensures.begins h in
-    text_word (sheet f.grammar.now) xs f.place i c.run-start-from.ensures.same j (record { from = i; bytes = take (j - i) (drop i xs) }) (runs_first xs i h b.0 b.1 j c.run-end-to.ensures.value) _ (sym c.in-ok-word.ensures)
+    let i = c.run_start-from.result in
+    let j = c.run_end-to.result in
+    let h : i < length xs = omega (arith, c.run_start-from.ensures.within) in
+    let b = c.run_start-from.ensures.begins h in
+    text_word (sheet f.grammar.now) xs f.place i c.run_start-from.ensures.same j (record { from = i; bytes = take (j - i) (drop i xs) }) (runs_first xs i h b.0 b.1 j c.run_end-to.ensures.value) _ (sym c.in_ok-word.ensures)
