@@ -7,6 +7,7 @@ ghost use Rattle.rows.specs.Changes.{Adds};
 ghost use Rattle.std.specs.Cmp.Rules.{comparing};
 ghost use Rattle.std.proofs.Common.{rules};
 ghost use Rattle.std.specs.Cmp as Keys;
+ghost use Rattle.std.specs.Str.{bytes_eq};
 
 use grammar::Grammar;
 
@@ -65,11 +66,14 @@ impl Row {
 }
 
 impl PartialEq for Row {
-    ghost equals = { λ v w b. Decides b (v ≡ w) };
+    ghost eq = { λ v w. bytes_eq v.items w.items };
 
     ghost laws = { Keys.partial_equiv_from_equiv (Prim.search (comparing, rules)) };
 
-    fn eq(&self, other: &Row) -> bool {
+    fn eq(&self, other: &Row) -> bool
+        ensures eq { result ≡ bytes_eq self.now.items other.now.items }
+        ensures decides { Decides result (self.now ≡ other.now) }
+    {
         self.same(other)
     }
 }
