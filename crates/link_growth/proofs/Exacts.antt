@@ -1,15 +1,14 @@
 -- A table that has grown from exact links by the rules, and is closed under them, is exact.
-use Rattle.std.proofs.Common.{◌≡◌, ℕ, zero, suc, ◌+◌, ◌<◌, ◌≤◌, ◌⊎◌, List, [], ◌∷◌, ◌++◌, length, get_or, Some, None, Option, sym, refl, ap, ◌∙◌, subst, inl, inr, ⊎_elim, arith}
+use Rattle.std.proofs.Common.{◌≡◌, ℕ, suc, ◌<◌, ◌≤◌, List, length, get_or, Some, Option, sym, ap, ◌∙◌, subst, inr, ⊎_elim, arith}
 use Rattle.std.proofs.lemmas.Bool.{cases_lt}
-use Rattle.parsing.specs.Grammar.{rule_count, lhs, rhs}
 use Rattle.parsing.specs.Items.{Source}
-use Rattle.parsing.specs.Links.{Linked, shift, reduce, Live, bottom, linked, Chain, stay, down, ChainOf, stay_of, down_of, LiveOf, Saturated}
+use Rattle.parsing.specs.Links.{Linked, shift, reduce, Live, Chain, stay, down, ChainOf, stay_of, down_of, LiveOf, Saturated}
 use Rattle.parsing.proofs.Soundness.{below, linked_place}
 use Rattle.parsing.proofs.Least.{linked_least, live_of, chain_of, linked_saturated}
 use Rattle.link_growth.specs.declared.Link.{Link}
-use Rattle.link_growth.specs.Entries.{lnk, Has, Mem, Once}
+use Rattle.link_growth.specs.Entries.{lnk, Has, Once}
 use Rattle.link_growth.specs.Growth.{Makes, shifts, reduces, Grown, same, add, Overfull, Shut}
-use Rattle.link_growth.specs.Counting.{Exact, Counts, Exceeds, Counting}
+use Rattle.link_growth.specs.Counting.{Exact, Exceeds, Counting}
 use Rattle.link_growth.proofs.Members.{mem_split, once_push}
 use Rattle.link_growth.proofs.Grows.{chain_more, live_more}
 use Rattle.link_growth.proofs.Sizes.{no_longer}

@@ -1,11 +1,11 @@
 -- The reductions of one rule: what the cells that they reach give, and why nothing is missed.
-use Rattle.std.proofs.Common.{◌≡◌, ℕ, zero, suc, ◌+◌, ◌*◌, ◌<◌, ◌≤◌, true, ◌⊎◌, List, [], length, take, Some, None, Option, sym, refl, ap, ◌∙◌, subst, inl, inr, ⊎_elim, arith, take_all}
+use Rattle.std.proofs.Common.{◌≡◌, ℕ, suc, ◌<◌, ◌≤◌, true, List, [], length, take, Some, None, Option, sym, refl, ap, ◌∙◌, subst, inl, inr, ⊎_elim, arith, take_all}
 use Rattle.std.proofs.lemmas.Bool.{cases_lt}
 use Rattle.parsing.specs.Grammar.{rule_count, lhs, rhs}
 use Rattle.parsing.specs.Items.{Source}
 use Rattle.parsing.specs.Links.{ChainOf, stay_of, down_of, LiveOf}
 use Rattle.link_growth.specs.declared.Link.{Link}
-use Rattle.link_growth.specs.Entries.{lnk, at, Small, Mem, Has, cell, upper, lower, Leads, stays, goes}
+use Rattle.link_growth.specs.Entries.{lnk, at, Small, Mem, Has, cell, upper, lower, stays}
 use Rattle.link_growth.specs.Growth.{Makes, reduces, Grown, Fired, Before, Fresh, Laid, Ends}
 use Rattle.link_growth.specs.Picking.{Picked, Tops}
 use Rattle.link_growth.proofs.Members.{mem_at, mem_index, mem_take}

@@ -1,13 +1,13 @@
 -- How lists of links grow, and what chains and live states keep meanwhile.
-use Rattle.std.proofs.Common.{◌≡◌, ℕ, zero, suc, ◌+◌, ◌*◌, ◌<◌, ◌≤◌, ◌⊎◌, List, [], ◌∷◌, ◌++◌, length, get_or, take, Some, None, Option, sym, refl, ap, ◌∙◌, subst, inl, inr, ⊎_elim, arith, length-append}
+use Rattle.std.proofs.Common.{◌≡◌, ℕ, zero, suc, ◌<◌, ◌≤◌, List, [], ◌∷◌, length, take, None, Option, refl, ap, ◌∙◌, subst, inl, inr, ⊎_elim, arith, length-append}
 use lib.Seq.{take-append-le}
-use Rattle.std.proofs.lemmas.List.{get_or_append_left, length_push}
+use Rattle.std.proofs.lemmas.List.{length_push}
 use Rattle.parsing.specs.Items.{Source}
 use Rattle.parsing.specs.Links.{ChainOf, stay_of, down_of, LiveOf}
 use Rattle.link_growth.specs.declared.Link.{Link}
-use Rattle.link_growth.specs.Entries.{lnk, at, Small, Mem, Has, cell, upper, lower, Leads, stays, goes}
+use Rattle.link_growth.specs.Entries.{lnk, Small, Mem, Has, cell, Leads, stays, goes}
 use Rattle.link_growth.specs.Growth.{Makes, shifts, reduces, Grown, same, add, Overfull}
-use Rattle.link_growth.proofs.Members.{mem_left, mem_last, mem_split}
+use Rattle.link_growth.proofs.Members.{mem_left, mem_split}
 
 -- Chains and live states over more links.
 pub chain_more : {K L : ℕ → ℕ → ℕ → ℕ → Type 0} → ((s j b i : ℕ) → K s j b i → L s j b i) → {m t j b i : ℕ} → ChainOf K m t j b i → ChainOf L m t j b i

@@ -1,13 +1,11 @@
 -- Loops that pick numbers into a list, step by step; and sets of cells that spread along links.
-use Rattle.std.proofs.Common.{◌≡◌, ℕ, zero, suc, ◌+◌, ◌*◌, ◌<◌, ◌≤◌, ◌⊎◌, List, [], ◌∷◌, ◌++◌, map, length, get_or, Some, sym, refl, ap, ◌∙◌, subst, inl, inr, ⊎_elim, arith}
-use Rattle.std.proofs.lemmas.List.{length-map}
+use Rattle.std.proofs.Common.{◌≡◌, ℕ, suc, ◌+◌, ◌<◌, ◌≤◌, List, ◌∷◌, map, length, Some, sym, subst, inl, inr, ⊎_elim, arith}
 use Rattle.std.proofs.lemmas.Bool.{cases_lt}
 use Rattle.parsing.specs.Items.{Source}
 use Rattle.link_growth.specs.declared.Link.{Link}
-use Rattle.link_growth.specs.Entries.{Mem, head, tail, Once, cons, cell, upper, lower, Leads, stays, goes, Spread}
+use Rattle.link_growth.specs.Entries.{Mem, head, tail, Once, cons, cell, upper, lower, Leads, goes, Spread}
 use Rattle.link_growth.specs.Growth.{Ends}
 use Rattle.link_growth.specs.Picking.{Inserted, Picked}
-use Rattle.link_growth.proofs.Members.{mem_split, mem_last, mem_left}
 use Rattle.link_growth.proofs.Sizes.{no_longer}
 
 pub picked_none : (P : ℕ → Type 0) (f : ℕ → ℕ) (m n : ℕ) (old : List ℕ) → n ≤ m → Picked P f m n old old

@@ -1,6 +1,6 @@
 -- A list without repeats is no longer than a list that has all that it has.
-use Rattle.std.proofs.Common.{◌≡◌, ℕ, suc, ◌+◌, ◌<◌, ◌≤◌, ◌⊎◌, List, [], ◌∷◌, length, sym, refl, ap, ◌∙◌, subst, inl, inr, ⊎_elim, arith}
-use Rattle.link_growth.specs.Entries.{Mem, head, tail, Once, nil, cons}
+use Rattle.std.proofs.Common.{◌≡◌, ◌+◌, ◌≤◌, ◌⊎◌, List, [], ◌∷◌, length, refl, subst, inl, inr, ⊎_elim, arith}
+use Rattle.link_growth.specs.Entries.{Mem, head, tail, Once, cons}
 
 -- ys without one place of x
 record Less {A : Type 0} (x : A) (ys : List A) : Type 0 where

@@ -9,7 +9,7 @@
 --   Fresh j n xs             no link among the first n of xs stays at j
 --   Laid j n xs              from n on the links of xs are at j, those of other places come before, and no link rises
 --   Ends src x m cs xs Q     Q holds of each step by x from where m links of xs lead from the cells cs
-use Rattle.std.specs.Prelude.{◌≡◌, ℕ, suc, ◌<◌, ◌≤◌, Bool, true, false, List, [], ◌∷◌, ◌++◌, length, take, Some, None, Option, ◌≢◌}
+use Rattle.std.specs.Prelude.{◌≡◌, ℕ, suc, ◌<◌, ◌≤◌, true, List, [], ◌∷◌, ◌++◌, length, take, Some, Option, ◌≢◌}
 use Rattle.parsing.specs.Grammar.{rule_count, lhs, rhs}
 use Rattle.parsing.specs.Items.{Source}
 use Rattle.parsing.specs.Links.{ChainOf, LiveOf}
