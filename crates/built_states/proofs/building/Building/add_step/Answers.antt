@@ -15,8 +15,8 @@ returns-in_default c =
       grows = omega arith;
     }
 
-pub returns-then-target-eq-MOST-STATES : goal.returns-then-target-eq-MOST-STATES
-returns-then-target-eq-MOST-STATES c =
+pub returns-then-target-eq255 : goal.returns-then-target-eq255
+returns-then-target-eq255 c =
     let b = c.args.self.now in
     let e : b.count ≡ 255 = omega (arith, c.requires.0.few) in
     record {
@@ -37,7 +37,7 @@ returns c =
       | then-target-slot w ↦
           let t =
           new_turn g b d c.args.i c.args.x c.in-Some.kernel c.requires.0 c.requires.1.0 c.requires.1.1 (symbols_few c.args.grammar.now)
-          c.in-Some.ensures c.complete_at.ensures c.if-target-slot.self c.place_of-target.result w.if-target-slot.true c.if-target-eq-MOST-STATES.false
+          c.in-Some.ensures c.complete_at.ensures c.if-target-slot.self c.place_of-target.result w.if-target-slot.true c.if-target-eq255.false
           c.place_of-target.ensures.first w.self-is
           in
           record { cases = t.0; grows = t.1 }

@@ -7,9 +7,12 @@ use Rattle.built_states.proofs.built.BuiltStates.build.Goals as goal
 
 pub invariant_of-result : goal.invariant_of-result
 invariant_of-result c =
-    (∣ finished (meaning c.args.grammar.now) c.in_ok-count.field-0 (right_sides c.args.grammar.now) c.in_ok-count.ensures ∣₁, tt)
+    record { built = ∣ finished (meaning c.args.grammar.now) c.in_ok-count.field-0 (right_sides c.args.grammar.now) c.in_ok-count.ensures ∣₁ }
 
 pub returns : goal.returns
 returns c =
     let f = finished (meaning c.args.grammar.now) c.in_ok-count.field-0 (right_sides c.args.grammar.now) c.in_ok-count.ensures in
-    record { over_grammar = refl; built = f; counted = set_count f.matched; not_many = not_many f }
+    record {
+      built = (refl, f);
+      counted = record { over_grammar = refl; built = f; counted = set_count f.matched; not_many = not_many f };
+    }

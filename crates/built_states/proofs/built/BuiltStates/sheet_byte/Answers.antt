@@ -6,16 +6,16 @@ pub bounds-self-cell : goal.bounds-self-cell
 bounds-self-cell c =
     step_place c.args.self.now c.args.offset c.symbols-symbols.result (omega arith) (omega (arith, c.marks_at-marks.ensures.value)) c.symbols-symbols.ensures
 
-pub nonzero-div-cell : goal.nonzero-div-cell
-nonzero-div-cell c =
+pub nonzero_div-cell : goal.nonzero_div-cell
+nonzero_div-cell c =
     omega (
       arith,
       (mark_cell c.args.self.now c.args.offset c.marks_at-marks.result c.from-rules.result (omega arith) c.requires
           c.marks_at-marks.ensures.value (c.from-rules.ensures ∙ c.rules.ensures)).column_in,
     )
 
-pub offset-bounds-self-cell : goal.offset-bounds-self-cell
-offset-bounds-self-cell c =
+pub offset_bounds-self-cell : goal.offset_bounds-self-cell
+offset_bounds-self-cell c =
     omega (
       arith,
       mark_place c.args.self.now c.args.offset c.marks_at-marks.result c.from-rules.result (omega arith) c.requires
@@ -27,8 +27,8 @@ bounds-self-cell-else-offset-marks c =
     mark_place c.args.self.now c.args.offset c.marks_at-marks.result c.from-rules.result (omega arith) c.requires
     c.marks_at-marks.ensures.value (c.from-rules.ensures ∙ c.rules.ensures)
 
-pub nonzero-rem-cell : goal.nonzero-rem-cell
-nonzero-rem-cell c =
+pub nonzero_rem-cell : goal.nonzero_rem-cell
+nonzero_rem-cell c =
     omega (
       arith,
       (mark_cell c.args.self.now c.args.offset c.marks_at-marks.result c.from-rules.result (omega arith) c.requires

@@ -17,7 +17,7 @@ returns c =
     let e : c.loop-offset.offset ≡ n = omega arith in
     record {
       writes = record {
-        goal = c.sheet_len-need.ensures.value;
+        need = c.sheet_len-need.ensures.value;
         room = c.if-room-need.false;
         front =
             ap (λ (k : ℕ). take k c.loop-offset.room) (sym e) ∙ c.loop-offset.invariant.0

@@ -2,8 +2,8 @@ use Rattle.std.proofs.Common.{[], arith}
 use Rattle.tables.proofs.Lists.{in_list, state_read}
 use Rattle.tables.proofs.known.KnownStates.state.Goals as goal
 
-pub offset-bounds-self-place : goal.offset-bounds-self-place
-offset-bounds-self-place c = omega (arith, in_list c.args.self.now c.args.place c.requires)
+pub offset_bounds-self-place : goal.offset_bounds-self-place
+offset_bounds-self-place c = omega (arith, in_list c.args.self.now c.args.place c.requires)
 
 pub bounds-self-place : goal.bounds-self-place
 bounds-self-place c = omega (arith, in_list c.args.self.now c.args.place c.requires)
