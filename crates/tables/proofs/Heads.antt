@@ -9,12 +9,7 @@ use Rattle.table_format.specs.Breaches.{FormBreach, CleanTo, Clean, First, Check
 use Rattle.table_format.proofs.Cleaning.{clean_start, clean_row, clean_end, clean_form, row_20, row_21, row_22, row_23}
 use Rattle.tables.specs.declared.header.Header.{Header}
 use Rattle.tables.specs.Heads.{Long, Counted, Placed, Told, Laid, Headed, Formed, Allowed, Barred}
-use Rattle.tables.specs.Faults.{Faulty, Ranging}
-use Rattle.tables.specs.Trying.{stands_in}
-
--- The first row of the form that applies is what the check answers.
-pub of_form : {g : Grammar} {b : List ℕ} {n p : ℕ} {f : TableFault} → outcome f ≡ refuses n p 0 → stands_in f ≡ None → First g b n p → Faulty g b f
-of_form {g} {b} e d h = record { checked = subst (Checked g b) (sym e) (by_form h); no_state = d }
+use Rattle.tables.specs.Faults.{Ranging}
 
 pub clean_long : (g : Grammar) (b : List ℕ) → Long b → Clean g b 21
 clean_long g b l = clean_row {n = 20} 0 clean_start (λ q h. row_20 l.head l.whole)

@@ -22,7 +22,7 @@ use Rattle.tables.specs.declared.header.Header.{Header}
 use Rattle.tables.specs.Heads.{Laid, Formed}
 use Rattle.tables.specs.declared.finding.Finding.{Finding}
 use Rattle.tables.specs.Faults.{Faulty, Refused, Found}
-use Rattle.tables.specs.Trying.{RowOf, Halts}
+use Rattle.tables.specs.Trying.{InNone, RowOf, Halts}
 use Rattle.tables.specs.declared.known.KnownStates.{KnownStates}
 use Rattle.tables.specs.Lists.{listed, Apart, RowsBy, Unreached, row_in}
 use Rattle.tables.specs.Passing.{Passed}
@@ -43,10 +43,10 @@ refused rs c = record {
     other : {n p q : ℕ} → refuses n p q ≢ passes
     other e = let z : ◌≡◌ {A = ℕ} 0 1 = cc in omega arith
 
-pub form_found : {g : Grammar} {b : List ℕ} {f : TableFault} → RightSides g → Faulty g b f → Found g b (record { fault = f; row = None })
-form_found {g} {b} {f} rs c = record {
-  refused = refused {f = f} rs c.checked;
-  row = subst (λ (o : Option ℕ). RowOf g (table_of b) o None) (sym c.no_state) tt;
+pub form_found : {g : Grammar} {b : List ℕ} {f : TableFault} → RightSides g → Faulty g b f → InNone f → Found g b (record { fault = f; row = None })
+form_found {g} {b} {f} rs c n = record {
+  refused = refused {f = f} rs c;
+  row = subst (λ (o : Option ℕ). RowOf g (table_of b) o None) (sym n) tt;
 }
 
 pub walk_found : {g : Grammar} {b : List ℕ} {h : Header} {e : Finding} → RightSides g → Formed g b h → Halts g (table_of b) e → Found g b e

@@ -1,6 +1,8 @@
 -- What trying a symbol or a rule comes to, and what the walk stops with.
 --   stands_in f          the state whose step or mark the fault f speaks of
---   FaultIn g t s f      the walk over the table t ends with the fault f, which is in the state s
+--   InNone f             the fault f is in no state
+--   InState ks i f       the fault f is in the known state in place i
+--   TriedIn ks i r       where the trial r ends the walk, its fault is in the known state in place i
 --   Tries g t ks i X r   where the walk is at the symbol X of the known state in place i, the trial r says how it goes on:
 --                        with one more known state or none, or to its end
 --   Wants g t s w        the walk over the table t comes without a fault to where the state s is known with the row w
@@ -36,9 +38,16 @@ stands_in (NeverReached s) = None
 stands_in TooManyStates = None
 stands_in (RoomShort n) = None
 
-pub record FaultIn (g : Grammar) (t : Table) (s : ℕ) (f : TableFault) : Type 0 where
-  pub ends : Walk g t (outcome f)
-  pub is_in : stands_in f ≡ Some s
+abbrev pub InNone : TableFault → Type 0
+InNone f = stands_in f ≡ None
+
+abbrev pub InState : List Known → ℕ → TableFault → Type 0
+InState ks i f = stands_in f ≡ Some (state_at ks i)
+
+abbrev pub TriedIn : List Known → ℕ → Trial → Type 0
+TriedIn ks i Right = Unit {0}
+TriedIn ks i (New k) = Unit {0}
+TriedIn ks i (Wrong f) = InState ks i f
 
 abbrev pub Tries : Grammar → Table → List Known → ℕ → ℕ → Trial → Type 0
 Tries g t ks i X Right = Walked g t ks i (X + 1) 0

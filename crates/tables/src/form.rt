@@ -1,8 +1,9 @@
 //! The form of a table sheet: its header, and the ranges of its bytes.
-ghost use Rattle.std.specs.Prelude.{◌≡◌, ℕ, ◌+◌, ◌*◌, ◌<◌, ◌≤◌, length, MatchBool, MatchResult};
+ghost use Rattle.std.specs.Prelude.{◌≡◌, ℕ, ◌+◌, ◌*◌, ◌<◌, ◌≤◌, length, MatchBool, IfErr, MatchResult};
 ghost use Rattle.grammar.specs.Meaning.{meaning};
 ghost use Rattle.tables.specs.Heads.{Allowed, Barred, Laid, Formed};
 ghost use Rattle.tables.specs.Faults.{Faulty, Foremost, Ranging};
+ghost use Rattle.tables.specs.Trying.{InNone};
 
 use crate::header::Header;
 use grammar::Grammar;
@@ -23,7 +24,8 @@ impl Header {
     /// Each byte behind the header may stand where it stands.
     fn check_bytes(&self, sheet: &[u8]) -> Result<(), TableFault>
         requires { Laid sheet.now self.now }
-        ensures { MatchResult result (λ _. Ranging sheet.now (length sheet.now)) (λ f. Foremost sheet.now 23 f) }
+        ensures cases { MatchResult result (λ _. Ranging sheet.now (length sheet.now)) (λ f. Foremost sheet.now 23 f) }
+        ensures no_state { IfErr result InNone }
     {
         for offset in 12..sheet.len() {
             if !self.allows(offset, sheet[offset]) {
@@ -35,7 +37,8 @@ impl Header {
 
     /// The header of a sheet that has the form, or the first fault of the form.
     pub(crate) fn check(grammar: &Grammar, sheet: &[u8]) -> Result<Header, TableFault>
-        ensures { MatchResult result (λ h. Formed (meaning grammar.now) sheet.now h) (λ f. Faulty (meaning grammar.now) sheet.now f) }
+        ensures cases { MatchResult result (λ h. Formed (meaning grammar.now) sheet.now h) (λ f. Faulty (meaning grammar.now) sheet.now f) }
+        ensures no_state { IfErr result InNone }
     {
         let header = Header::read(grammar, sheet)?;
         header.check_bytes(sheet)?;

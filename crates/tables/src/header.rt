@@ -1,9 +1,10 @@
 //! The header of a table sheet: six numbers of 16 bits.
-ghost use Rattle.std.specs.Prelude.{◌≡◌, ℕ, ◌+◌, ◌*◌, ◌<◌, ◌≤◌, length, MatchResult};
+ghost use Rattle.std.specs.Prelude.{◌≡◌, ℕ, ◌+◌, ◌*◌, ◌<◌, ◌≤◌, length, IfErr, MatchResult};
 ghost use Rattle.grammar.specs.Meaning.{meaning};
 ghost use Rattle.grammar_format.specs.Fields.{number as told};
 ghost use Rattle.tables.specs.Heads.{Long, Counted, Placed, Told, Headed};
 ghost use Rattle.tables.specs.Faults.{Faulty, Foremost};
+ghost use Rattle.tables.specs.Trying.{InNone};
 
 use grammar::Grammar;
 use states::TableFault;
@@ -27,7 +28,8 @@ fn number(sheet: &[u8], at: usize) -> usize
 
 /// The sheet has a header, and the length that it tells.
 fn check_length(sheet: &[u8]) -> Result<(), TableFault>
-    ensures { MatchResult result (λ _. Long sheet.now) (λ f. Foremost sheet.now 20 f) }
+    ensures cases { MatchResult result (λ _. Long sheet.now) (λ f. Foremost sheet.now 20 f) }
+    ensures no_state { IfErr result InNone }
 {
     if sheet.len() < 12 {
         return Err(TableFault::WholeLength);
@@ -42,7 +44,8 @@ impl Header {
     /// The counts: 1 to 255 states, and as many symbols and rules as the grammar has.
     fn counts(grammar: &Grammar, sheet: &[u8]) -> Result<Header, TableFault>
         requires { Long sheet.now }
-        ensures { MatchResult result (λ h. Counted (meaning grammar.now) sheet.now × Told sheet.now h) (λ f. Faulty (meaning grammar.now) sheet.now f) }
+        ensures cases { MatchResult result (λ h. Counted (meaning grammar.now) sheet.now × Told sheet.now h) (λ f. Faulty (meaning grammar.now) sheet.now f) }
+        ensures no_state { IfErr result InNone }
     {
         let states = number(sheet, 2);
         let symbols = grammar.terminals() + grammar.nonterminals();
@@ -76,7 +79,8 @@ impl Header {
     /// The offsets are those of the steps and of the done marks, and the length is as counted.
     fn check_offsets(&self, sheet: &[u8]) -> Result<(), TableFault>
         requires { (Long sheet.now) × (Told sheet.now self.now) }
-        ensures { MatchResult result (λ _. Placed sheet.now) (λ f. Foremost sheet.now 22 f) }
+        ensures cases { MatchResult result (λ _. Placed sheet.now) (λ f. Foremost sheet.now 22 f) }
+        ensures no_state { IfErr result InNone }
     {
         let marks = self.marks_at();
         if number(sheet, 8) != 12 {
@@ -93,7 +97,8 @@ impl Header {
 
     /// The counts that the sheet tells, or what is wrong with its header.
     pub(crate) fn read(grammar: &Grammar, sheet: &[u8]) -> Result<Header, TableFault>
-        ensures { MatchResult result (λ h. Headed (meaning grammar.now) sheet.now h) (λ f. Faulty (meaning grammar.now) sheet.now f) }
+        ensures cases { MatchResult result (λ h. Headed (meaning grammar.now) sheet.now h) (λ f. Faulty (meaning grammar.now) sheet.now f) }
+        ensures no_state { IfErr result InNone }
     {
         check_length(sheet)?;
         let header = Header::counts(grammar, sheet)?;

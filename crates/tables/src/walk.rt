@@ -1,13 +1,14 @@
 //! The walk: trying the steps and the marks of the known states.
-ghost use Rattle.std.specs.Prelude.{◌≡◌, ℕ, ◌+◌, ◌<◌, ◌≤◌, length, MatchResult};
+ghost use Rattle.std.specs.Prelude.{◌≡◌, ℕ, ◌+◌, ◌<◌, ◌≤◌, length, IfErr, MatchResult};
 ghost use Rattle.parsing.specs.Grammar.{rule_count};
 ghost use Rattle.grammar.specs.Meaning.{meaning};
 ghost use Rattle.table_format.specs.ItemSets.{symbols as total};
 ghost use Rattle.table_format.specs.Sheets.{table_of};
-ghost use Rattle.table_format.specs.Walks.{Walked, state_at};
+ghost use Rattle.table_format.specs.Walks.{Walked, Walk};
 ghost use Rattle.tables.specs.Heads.{Formed};
 ghost use Rattle.tables.specs.Lists.{listed};
-ghost use Rattle.tables.specs.Trying.{FaultIn, Halts, Tries};
+ghost use Rattle.states.specs.Refusals.{outcome};
+ghost use Rattle.tables.specs.Trying.{Halts, InState, TriedIn, Tries};
 
 use crate::finding::Finding;
 use crate::header::Header;
@@ -30,7 +31,8 @@ fn try_step(
     requires inside { place < length (listed known.now) }
     requires symbol { symbol < total (meaning grammar.now) }
     requires come { Walked (meaning grammar.now) (table_of sheet.now) (listed known.now) place symbol 0 }
-    ensures { Tries (meaning grammar.now) (table_of sheet.now) (listed known.now) place symbol result }
+    ensures tries { Tries (meaning grammar.now) (table_of sheet.now) (listed known.now) place symbol result }
+    ensures in_state { TriedIn (listed known.now) place result }
 {
     let state = known.state(place);
     let byte = header.step(sheet, state, symbol);
@@ -74,7 +76,8 @@ fn try_mark(
     requires inside { place < length (listed known.now) }
     requires rule { rule < rule_count (meaning grammar.now) }
     requires come { Walked (meaning grammar.now) (table_of sheet.now) (listed known.now) place (total (meaning grammar.now)) rule }
-    ensures { MatchResult result (λ _. Walked (meaning grammar.now) (table_of sheet.now) (listed known.now) place (total (meaning grammar.now)) (rule + 1)) (λ f. Walk (meaning grammar.now) (table_of sheet.now) (outcome f)) }
+    ensures cases { MatchResult result (λ _. Walked (meaning grammar.now) (table_of sheet.now) (listed known.now) place (total (meaning grammar.now)) (rule + 1)) (λ f. Walk (meaning grammar.now) (table_of sheet.now) (outcome f)) }
+    ensures in_state { IfErr result (InState (listed known.now) place) }
 {
     let state = known.state(place);
     let wanted = known.row(place).is_done(grammar, usize::from(rule)) as u8;

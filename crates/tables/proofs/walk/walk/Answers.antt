@@ -13,15 +13,15 @@ loop-place-init c =
     begins (meaning c.args.grammar.now) (listed c.begin-known.result) (items c.first.result) c.begin-known.ensures c.first.ensures
 
 pub push-requires : goal.push-requires
-push-requires c = room_for c.requires (listed c.loop-symbol.known) (known_of c.in-New.found) c.in-New.ensures
+push-requires c = room_for c.requires (listed c.loop-symbol.known) (known_of c.in-New.found) c.in-New.ensures.tries
 
 pub loop-symbol-preserved : goal.loop-symbol-preserved
 loop-symbol-preserved c =
     elim c.match-try_step.branch [
-      | in-Right w ↦ stays c.loop-symbol.known c.match-try_step.known w.known-is w.in-Right.ensures c.loop-symbol.invariant.1
+      | in-Right w ↦ stays c.loop-symbol.known c.match-try_step.known w.known-is w.in-Right.ensures.tries c.loop-symbol.invariant.1
       | in-New w ↦
           grows c.loop-symbol.known w.push.new.self c.match-try_step.known (known_of w.in-New.found)
-          w.known-is w.push.ensures w.in-New.ensures c.loop-symbol.invariant.1
+          w.known-is w.push.ensures w.in-New.ensures.tries c.loop-symbol.invariant.1
     ]
 
 pub loop-place-smaller : goal.loop-place-smaller

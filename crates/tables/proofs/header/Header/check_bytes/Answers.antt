@@ -7,8 +7,8 @@ use Rattle.tables.proofs.header.Header.check_bytes.Goals as goal
 pub loop-offset-init : goal.loop-offset-init
 loop-offset-init c g k = clean_header k
 
-pub returns-then-not-allows : goal.returns-then-not-allows
-returns-then-not-allows c g k =
+pub returns-then-not-allows-clause-cases : goal.returns-then-not-allows-clause-cases
+returns-then-not-allows-clause-cases c g k =
     by_form (record {
       applies = barred_breach c.requires c.loop-offset.offset (omega arith) (omega arith) c.if-not-allows.ensures;
       before = c.loop-offset.invariant g k;
@@ -18,5 +18,5 @@ pub loop-offset-preserved : goal.loop-offset-preserved
 loop-offset-preserved c g k =
     clean_at c.loop-offset.offset (c.loop-offset.invariant g k) (allowed_fine c.requires c.loop-offset.offset c.if-not-allows.ensures)
 
-pub returns : goal.returns
-returns c g k = clean_less c.loop-offset-test.false (c.loop-offset.invariant g k)
+pub returns-clause-cases : goal.returns-clause-cases
+returns-clause-cases c g k = clean_less c.loop-offset-test.false (c.loop-offset.invariant g k)

@@ -9,10 +9,10 @@ bounds-self-self c = omega (arith, len_is c.args.self.now, c.requires)
 
 pub invariant_of-self : goal.invariant_of-self
 invariant_of-self c =
-    let few : c.args.self.now.count + 1 ≤ 255 = omega (arith, len_is c.args.self.now, c.requires) in (
-      length-set c.args.self.now.list c.args.self.now.count c.args.known ∙ c.args.self.now.room,
-      (few, tt),
-    )
+    record {
+      room = length-set c.args.self.now.list c.args.self.now.count c.args.known ∙ c.args.self.now.room;
+      few = omega (arith, len_is c.args.self.now, c.requires);
+    }
 
 pub returns : goal.returns
 unfolding listed

@@ -4,7 +4,7 @@ use Rattle.std.proofs.lemmas.Slice.{overwrites}
 use Rattle.tables.proofs.sheet.Sheet.hold.Goals as goal
 
 pub invariant_of-result : goal.invariant_of-result
-invariant_of-result c = (search (rules, overwrites), (c.requires, tt))
+invariant_of-result c = record { room = search (rules, overwrites); few = c.requires }
 
 pub returns : goal.returns
 returns c =
