@@ -119,14 +119,14 @@ module _ {X : Type 0} {R : X → X → Ordering} (o : IsTotalOrder R) where
       let i = h.place in
       record {
         same = h.same;
-        order = h.order;
+        order = h.order o;
         old = λ z q. subst (λ zs. Has zs z) (sym h.put) (has_old xs i x z h.place_in q);
         new = λ z q. subst (λ zs. Has zs z) (sym h.put) (subst (λ w. Has (insert xs i x) w) (sym q) (has_here xs i x h.place_in));
         only = λ z q. has_only xs i x z h.place_in (subst (λ zs. Has zs z) h.put q);
       }
   grew_put f a b x false (e, (k, kl, q)) =
       subst (λ c. Grew o (λ z. z ≡ x) a c) (sym e)
-      (grew_none (λ z. z ≡ x) a (λ z h. (k, kl, λ d. f (get_or (held a) k d) x (q d) ∙ sym h)))
+      (grew_none (λ z. z ≡ x) a (λ z h. (k, kl, λ d. f (get_or (held a) k d) x (q o d) ∙ sym h)))
 
   pub lacks_put : (a b : Register X) (x : X) (e : Full) → Put R a b x (Err e) → Lacks o (λ z. z ≡ x) a b
   lacks_put a b x e (q, n, c) =
@@ -135,7 +135,7 @@ module _ {X : Type 0} {R : X → X → Ordering} (o : IsTotalOrder R) where
         same = same_slots a;
         short = λ up. record {
           some = x ∷ held a;
-          apart = apart_cons x (held a) (climbs_apart (held a) up) (λ k d l r. c up k d l (equal_self (get_or (held a) k d) x r));
+          apart = apart_cons x (held a) (climbs_apart (held a) up) (λ k d l r. c o up k d l (equal_self (get_or (held a) k d) x r));
           each = λ z h. has_cons x (held a) z h;
           many = omega arith;
         };

@@ -25,7 +25,7 @@ impl<T: Copy> Register<'_, T> {
 impl<T: Ord + Copy> Register<'_, T> {
     /// Puts x in its place among the records, unless it is there; says whether it is new.
     pub fn insert(&mut self, x: T) -> Result<bool, Full>
-        ensures { Put (λ x' y' r'. r' ≡ T.Ord.cmp x' y') self.old self.new x result }
+        ensures { Put T.Ord.cmp self.old self.new x result }
     {
         match self.records().binary_search(&x) {
             Ok(_found) => Ok(false),

@@ -1,8 +1,8 @@
-use Rattle.std.proofs.Common.{◌≡◌, ◌<◌, ◌≤◌, List, length, get_or, sym, refl, ap, ◌∙◌, subst, arith}
+use Rattle.std.proofs.Common.{◌<◌, ◌≤◌, List, length, get_or, sym, refl, ap, ◌∙◌, subst, arith}
 use Rattle.std.specs.Ordering.{ordering_index}
 use Rattle.std.specs.List.Sorted.{IsNonDecreasingBy}
 use Rattle.std.proofs.lemmas.List.{length-take-le}
-use Rattle.register.specs.Registers.{held, room, Climbs}
+use Rattle.register.specs.Registers.{held, Climbs}
 use Rattle.register.proofs.Climbing.{rises_from_climbs, PartedAt, climbs_inserted, not_there}
 use Rattle.register.proofs.register.Register.insert.Goals as goal
 
@@ -13,19 +13,19 @@ returns-then-self g c =
       refl {a = c.args.self.now},
       n ∙ c.if-self.true,
       λ o up. not_there o (held a) c.args.x c.in-Err.place
-          (subst (λ (zs : List g.row.T.Denot). IsNonDecreasingBy (λ y. ordering_index (o.cmp y c.args.x)) zs → PartedAt o zs c.args.x c.in-Err.place) c.records.ensures
-          (c.in-Err.ensures.position o) (rises_from_climbs o (held a) c.args.x up)),
+          (subst (λ (zs : List g.row.T.Denot). IsNonDecreasingBy (λ y. ordering_index (g.T.Ord.cmp y c.args.x)) zs → PartedAt o zs c.args.x c.in-Err.place) c.records.ensures
+          c.in-Err.ensures.position (rises_from_climbs o (held a) c.args.x up)),
     )
 
 pub returns-in-Ok : goal.returns-in-Ok
 returns-in-Ok g c =
     let a = c.args.self.now in
-    let k = c.in-Ok.-found in (
+    let k = c.in-Ok._found in (
       refl {a = c.args.self.now},
       (
         k,
         subst (λ (zs : List g.row.T.Denot). k < length zs) c.records.ensures c.in-Ok.ensures.bound,
-        λ o d. ap (λ (zs : List g.row.T.Denot). o.cmp (get_or zs k d) c.args.x) (sym c.records.ensures) ∙ c.in-Ok.ensures.position o d,
+        λ o d. ap (λ (zs : List g.row.T.Denot). g.T.Ord.cmp (get_or zs k d) c.args.x) (sym c.records.ensures) ∙ c.in-Ok.ensures.position d,
       ),
     )
 
@@ -43,6 +43,6 @@ returns-else-self g c =
       put = c.put_at.ensures.put;
       order = λ o up. subst (λ (zs : List g.row.T.Denot). Climbs o zs) (sym c.put_at.ensures.put)
           (climbs_inserted o (held a) i c.args.x il up
-          (subst (λ (zs : List g.row.T.Denot). IsNonDecreasingBy (λ y. ordering_index (o.cmp y c.args.x)) zs → PartedAt o zs c.args.x i) c.records.ensures
-          (c.in-Err.ensures.position o) (rises_from_climbs o (held a) c.args.x up)));
+          (subst (λ (zs : List g.row.T.Denot). IsNonDecreasingBy (λ y. ordering_index (g.T.Ord.cmp y c.args.x)) zs → PartedAt o zs c.args.x i) c.records.ensures
+          c.in-Err.ensures.position (rises_from_climbs o (held a) c.args.x up)));
     }

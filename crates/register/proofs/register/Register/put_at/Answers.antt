@@ -1,4 +1,4 @@
-use Rattle.std.proofs.Common.{◌≡◌, ℕ, ◌+◌, ◌-◌, List, get_or, set, sym, refl, ap, ◌∙◌, subst, arith, length-set}
+use Rattle.std.proofs.Common.{◌≡◌, ◌+◌, ◌-◌, get_or, refl, ◌∙◌, subst, arith, length-set}
 use Rattle.register.proofs.Shifting.{Moved, moved_none, moved_more, moved_all}
 use Rattle.register.proofs.register.Register.put_at.Goals as goal
 
