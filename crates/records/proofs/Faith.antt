@@ -1,13 +1,11 @@
 -- The orders of the records tell all records apart.
-use Rattle.std.proofs.Common.{◌≡◌, ℕ, ◌<◌, Bool, true, false, List, [], ◌∷◌, Ordering, Less, Equal, Greater, sym, refl, ap, ◌∙◌, subst, ap₂, arith, eqb-true}
+use Rattle.std.proofs.Common.{◌≡◌, ℕ, List, [], ◌∷◌, Ordering, Less, Equal, Greater, sym, refl, ap, ◌∙◌, ap₂, arith, eqb-true}
 use Rattle.std.specs.Ordering.{is_eq, ordering_then, nat_cmp}
 use Rattle.std.specs.Cmp.{unsigned_tied}
+use Rattle.std.specs.Cmp.Lexicographic.{slice_cmp}
 use Rattle.register.specs.Registers.{Faithful}
-use Rattle.records.specs.declared.node.Node.{Node}
-use Rattle.records.specs.declared.alternative.Alternative.{Alternative}
 use Rattle.records.specs.Cuts.{first, last}
 use Rattle.records.specs.Orders.{by_node, by_alternative}
-use Rattle.std.specs.Cmp.Lexicographic.{slice_cmp}
 
 same_number : (x y : ℕ) → nat_cmp x y ≡ Equal → x ≡ y
 same_number x y e = eqb-true x y (sym (unsigned_tied x y) ∙ ap is_eq e)

@@ -1,3 +1,4 @@
 pub mod Blanks
 pub mod Cuts
 pub mod Orders
+pub mod OrderLaws

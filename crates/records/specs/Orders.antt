@@ -1,31 +1,24 @@
 -- The orders of the records.
---   NodeOrders, by_node                 nodes go by from, then to, then symbol
---   AlternativeOrders, by_alternative   alternatives go by the first cut, then the last that is used, then the rule, then all cuts
-use Rattle.std.specs.Prelude.{◌≡◌, ℕ, ◌<◌}
+--   node_cmp, by_node                 nodes go by from, then to, then symbol
+--   alternative_cmp, by_alternative   alternatives go by the first cut, then the last that is used, then the rule, then all cuts
 use Rattle.std.specs.declared.cmp.Ordering.{Ordering}
-use Rattle.std.specs.Ordering.{MatchOrdering, Then}
-use Rattle.std.specs.Cmp.Derive.{on, fields}
-use Rattle.std.specs.Cmp.Derive as derived
-use Rattle.std.specs.Cmp.Lexicographic.{Lex, lists_total}
-use Rattle.std.specs.Tuples.{fours}
-use Rattle.std.specs.Cmp.{IsTotalOrder, nat_cmp_total}
+use Rattle.std.specs.Ordering.{nat_cmp, on, then_cmp}
+use Rattle.std.specs.Cmp.Lexicographic.{slice_cmp, lists_total}
+use Rattle.std.specs.Cmp.{IsTotalOrder, nat_cmp_total, on_total, then_total}
 use Rattle.records.specs.declared.node.Node.{Node}
 use Rattle.records.specs.declared.alternative.Alternative.{Alternative}
 use Rattle.records.specs.Cuts.{first, last}
 
--- The order of numbers.
-abbrev pub Number : ℕ → ℕ → Ordering → Type 0
-Number x y r = MatchOrdering r (x < y) (x ≡ y) (y < x)
+abbrev pub node_cmp : Node → Node → Ordering
+node_cmp = then_cmp (on (λ n. n.from) nat_cmp) (then_cmp (on (λ n. n.to) nat_cmp) (on (λ n. n.symbol) nat_cmp))
 
-abbrev pub NodeOrders : Node → Node → Ordering → Type 0
-NodeOrders m n = derived.Lex (Number m.from n.from) (derived.Lex (Number m.to n.to) (Number m.symbol n.symbol))
+abbrev pub by_node : IsTotalOrder node_cmp
+by_node = then_total (on_total (λ n. n.from) nat_cmp_total) (then_total (on_total (λ n. n.to) nat_cmp_total) (on_total (λ n. n.symbol) nat_cmp_total))
 
-abbrev pub by_node : IsTotalOrder NodeOrders
-by_node = on (λ (n : Node). (n.from, (n.to, n.symbol))) (fields nat_cmp_total (fields nat_cmp_total nat_cmp_total))
+abbrev pub alternative_cmp : Alternative → Alternative → Ordering
+alternative_cmp = then_cmp (then_cmp (then_cmp (on first nat_cmp) (on last nat_cmp)) (on (λ s. s.rule) nat_cmp)) (on (λ s. s.cuts) (slice_cmp nat_cmp))
 
-abbrev pub AlternativeOrders : Alternative → Alternative → Ordering → Type 0
-AlternativeOrders s t =
-    Then (Then (Then (Number (first s) (first t)) (Number (last s) (last t))) (Number s.rule t.rule)) (Lex Number s.cuts t.cuts)
-
-abbrev pub by_alternative : IsTotalOrder AlternativeOrders
-by_alternative = on (λ (s : Alternative). (first s, last s, s.rule, s.cuts)) (fours nat_cmp_total nat_cmp_total nat_cmp_total (lists_total nat_cmp_total))
+abbrev pub by_alternative : IsTotalOrder alternative_cmp
+by_alternative =
+    then_total (then_total (then_total (on_total first nat_cmp_total) (on_total last nat_cmp_total)) (on_total (λ s. s.rule) nat_cmp_total))
+    (on_total (λ s. s.cuts) (lists_total nat_cmp_total))

@@ -1,10 +1,12 @@
 //! An alternative of a node.
-ghost use Rattle.std.specs.Prelude.{◌≡◌, IsSomeAnd};
+ghost use Rattle.std.specs.Prelude.{◌≡◌};
 ghost use Rattle.records.specs.Cuts.{first, last};
 ghost use Rattle.records.specs.Blanks.{blank_alternative};
-ghost use Rattle.records.specs.Orders.{AlternativeOrders};
-ghost use Rattle.std.specs.Cmp.Rules.{comparing};
-ghost use Rattle.std.proofs.Common.{rules};
+ghost use Rattle.std.specs.Ordering.{as_partial_cmp};
+ghost use Rattle.records.specs.Orders.{alternative_cmp, by_alternative};
+ghost use Rattle.std.specs.Cmp.{partial_order_from_agreeing_total};
+ghost use Rattle.records.specs.OrderLaws.{alternative_ties};
+ghost use Rattle.std.proofs.Common.{refl};
 
 use std::cmp::Ordering;
 
@@ -50,9 +52,9 @@ impl Alternative {
 }
 
 impl PartialOrd for Alternative {
-    ghost compares = { λ s t r. IsSomeAnd r (AlternativeOrders s t) };
+    ghost partial_cmp = { as_partial_cmp alternative_cmp };
 
-    ghost laws = { Prim.search (comparing, rules) };
+    ghost laws = { partial_order_from_agreeing_total alternative_cmp by_alternative (λ _ _. refl) alternative_ties };
 
     fn partial_cmp(&self, other: &Alternative) -> Option<Ordering> {
         Some(self.cmp(other))
@@ -60,13 +62,13 @@ impl PartialOrd for Alternative {
 }
 
 impl Ord for Alternative {
-    ghost orders = { AlternativeOrders };
+    ghost cmp = { alternative_cmp };
 
-    ghost total = { Prim.search (comparing, rules) };
+    ghost total = { by_alternative };
 
-    ghost matches_partial_cmp = { Prim.search (comparing, rules) };
+    ghost matches_partial_cmp = { λ _ _. refl };
 
-    ghost matches_eq = { Prim.search (comparing, rules) };
+    ghost matches_eq = { alternative_ties };
 
     fn cmp(&self, other: &Alternative) -> Ordering {
         let mine = (self.first_cut(), self.last_cut(), self.rule, self.cuts);
