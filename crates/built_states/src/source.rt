@@ -66,12 +66,10 @@ impl StateSource for BuiltStates {
     }
 
     fn next(&self, state: u8, symbol: u8) -> Option<u8> {
-        let symbols = usize::from(self.grammar.terminals())
-            + usize::from(self.grammar.nonterminals());
-        if state >= self.count {
+        if state >= self.states() {
             return None;
         }
-        if usize::from(symbol) >= symbols {
+        if usize::from(symbol) >= self.symbols() {
             return None;
         }
         let target = self.steps[usize::from(state) * 64 + usize::from(symbol)];
@@ -82,7 +80,7 @@ impl StateSource for BuiltStates {
     }
 
     fn done(&self, state: u8, rule: u8) -> bool {
-        if state >= self.count {
+        if state >= self.states() {
             return false;
         }
         let row = self.rows[usize::from(state)];

@@ -6,8 +6,8 @@ use Rattle.built_states.specs.Meaning.{table}
 use Rattle.built_states.proofs.Answering.{done_past, done_is}
 use Rattle.built_states.proofs.source.BuiltStatesStateSource.done.Goals as goal
 
-pub returns-then-state-self : goal.returns-then-state-self
-returns-then-state-self c =
+pub returns-then-state-states : goal.returns-then-state-states
+returns-then-state-states c =
     let b = c.args.self.now in
     done_past (meaning b.grammar) (table b) (row_items b.rows) c.args.state c.args.rule (omega arith)
 

@@ -6,8 +6,8 @@ use Rattle.built_states.proofs.Answering.{next_past_states, next_past_symbols, n
 use Rattle.built_states.specs.Grammars.{symbols_few}
 use Rattle.built_states.proofs.source.BuiltStatesStateSource.next.Goals as goal
 
-pub returns-then-state-self : goal.returns-then-state-self
-returns-then-state-self c =
+pub returns-then-state-states : goal.returns-then-state-states
+returns-then-state-states c =
     let b = c.args.self.now in
     next_past_states (meaning b.grammar) (table b) (row_items b.rows) c.args.state c.args.symbol (omega arith)
 
@@ -20,14 +20,14 @@ pub returns-then-target : goal.returns-then-target
 returns-then-target c =
     let b = c.args.self.now in
     next_none (meaning b.grammar) (table b) (row_items b.rows) c.args.state c.args.symbol (omega arith) (omega arith)
-    (sym (step_read b.steps c.args.state c.args.symbol c.from-4.result c.from-5.result c.from-4.ensures c.from-5.ensures (omega (arith, symbols_few b.grammar)))
+    (sym (step_read b.steps c.args.state c.args.symbol c.from-2.result c.from-3.result c.from-2.ensures c.from-3.ensures (omega (arith, symbols_few b.grammar)))
     ∙ c.if-target.true)
 
 pub returns : goal.returns
 returns c =
     let b = c.args.self.now in
     let e =
-    step_read b.steps c.args.state c.args.symbol c.from-4.result c.from-5.result c.from-4.ensures c.from-5.ensures (omega (arith, symbols_few b.grammar))
+    step_read b.steps c.args.state c.args.symbol c.from-2.result c.from-3.result c.from-2.ensures c.from-3.ensures (omega (arith, symbols_few b.grammar))
     in
     ap Some e
     ∙ next_some (meaning b.grammar) (table b) (row_items b.rows) c.args.state c.args.symbol (omega arith) (omega arith) (omega (arith, e))
