@@ -1,7 +1,7 @@
 -- Rules in readable notation.
 --   right_text s xs   the right side xs of a rule of the sheet s
 --   rule_text s r     the rule r of the sheet s
---   if-rule s F r     the text F s r, where r is a rule of the sheet s
+--   if_rule s F r     the text F s r, where r is a rule of the sheet s
 use Rattle.std.specs.Prelude.{ℕ, cond, List, [], ◌∷◌, ◌++◌, Some, None, codes, Option, nat_lt}
 use Rattle.std.specs.List.{flat_map}
 use Rattle.parsing.specs.Grammar.{rule_count, lhs, rhs}
@@ -22,5 +22,5 @@ rule_text s r = symbol_name s (lhs s.grammar r) ++ (codes " ->" ++ right_text s 
 abbrev pub rule_right : Sheet → ℕ → List ℕ
 rule_right s r = right_text s (rhs s.grammar r)
 
-abbrev pub if-rule : Sheet → (Sheet → ℕ → List ℕ) → ℕ → Option (List ℕ)
-if-rule s F r = cond (nat_lt r (rule_count s.grammar)) (Some (F s r)) None
+abbrev pub if_rule : Sheet → (Sheet → ℕ → List ℕ) → ℕ → Option (List ℕ)
+if_rule s F r = cond (nat_lt r (rule_count s.grammar)) (Some (F s r)) None

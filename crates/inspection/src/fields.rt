@@ -1,7 +1,7 @@
 //! Where the parts of a grammar sheet stand, read off any bytes, whether they keep the rules or not.
 ghost use Rattle.std.specs.Prelude.{◌≡◌, ◌≤◌, drop, slice_index};
-ghost use Rattle.grammar_format.specs.Fields.{number as told, terminals as terminal-count, nonterminals as nonterminal-count, rules as rule_count};
-ghost use Rattle.grammar_format.specs.Fields.{block as Block-of, remains as remains-of, first_spelling, behind_spelling};
+ghost use Rattle.grammar_format.specs.Fields.{number as told, terminals as terminal_count, nonterminals as nonterminal_count, rules as rule_count};
+ghost use Rattle.grammar_format.specs.Fields.{block as block_of, remains as remains_of, first_spelling, behind_spelling};
 
 /// The byte at an offset; 0 past the end.
 fn byte(sheet: &[u8], at: usize) -> usize
@@ -39,8 +39,8 @@ impl Header {
     /// The six numbers of a sheet.
     pub(crate) fn of(sheet: &[u8]) -> Header
         ensures length { result.length ≡ told sheet.now 0 }
-        ensures terminals { result.terminals ≡ terminal-count sheet.now }
-        ensures nonterminals { result.nonterminals ≡ nonterminal-count sheet.now }
+        ensures terminals { result.terminals ≡ terminal_count sheet.now }
+        ensures nonterminals { result.nonterminals ≡ nonterminal_count sheet.now }
         ensures rules { result.rules ≡ rule_count sheet.now }
         ensures rules_at { result.rules_at ≡ told sheet.now 8 }
         ensures spellings_at { result.spellings_at ≡ told sheet.now 10 }
@@ -69,7 +69,7 @@ fn behind(sheet: &[u8], skipped: usize) -> &[u8]
 
 /// The nine bytes of a rule, or what there is of them.
 pub(crate) fn block(sheet: &[u8], rule: usize) -> &[u8]
-    ensures { result.now ≡ Block-of sheet.now rule }
+    ensures { result.now ≡ block_of sheet.now rule }
 {
     let rest = behind(sheet, rule.saturating_mul(9).saturating_add(12));
     if rest.len() < 9 { rest } else { &rest[0..9] }
@@ -88,7 +88,7 @@ pub(crate) fn split_spelling(rest: &[u8]) -> (&[u8], &[u8])
 
 /// What remains of a sheet from the spelling of a terminal on.
 pub(crate) fn remains(sheet: &[u8], terminal: usize) -> &[u8]
-    ensures { result.now ≡ remains-of sheet.now terminal }
+    ensures { result.now ≡ remains_of sheet.now terminal }
 {
     let mut rest = behind(sheet, 12 + 9 * number(sheet, 6));
     for _ in 0..terminal {

@@ -2,7 +2,7 @@
 ghost use Rattle.std.specs.Prelude.{◌≡◌, ◌-◌, Some};
 ghost use Rattle.grammar.specs.Meaning.{sheet};
 ghost use Rattle.inspection.specs.Listings.{indent as blanks, lines, symbol_line, rule_line, lines_of_rules, listing};
-ghost use Rattle.inspection.specs.Rules.{if-rule};
+ghost use Rattle.inspection.specs.Rules.{if_rule};
 
 use crate::name::Name;
 use crate::rule::RuleText;
@@ -48,7 +48,7 @@ pub struct RuleLine<'a> {
 }
 
 impl fmt::Display for RuleLine<'_> {
-    ghost output = { λ x. if-rule (sheet x.grammar.now) rule_line x.rule };
+    ghost output = { λ x. if_rule (sheet x.grammar.now) rule_line x.rule };
 
     fn fmt<W: fmt::Write>(&self, f: &mut fmt::Formatter<W>) -> fmt::Result {
         let RuleLine { grammar, rule } = *self;

@@ -4,7 +4,7 @@ ghost use Rattle.grammar_format.specs.Sheets.{sheet_bytes};
 ghost use Rattle.grammar.specs.Meaning.{sheet as sheet_of};
 ghost use Rattle.grammar.specs.Refusals.{refusal};
 ghost use Rattle.inspection.specs.Lines.{refusal_line};
-ghost use Rattle.inspection.specs.Listings.{listing as listing-of};
+ghost use Rattle.inspection.specs.Listings.{listing as listing_of};
 ghost use Rattle.inspection.specs.Reports.{Report, verdict_text, closing_line};
 
 use crate::explanation::Explanation;
@@ -53,7 +53,7 @@ impl fmt::Display for WrittenBack {
 
 /// The report of a sheet that a grammar was read from.
 fn listed(heap: Global, grammar: &Grammar, sheet: &[u8]) -> Result<String, AllocError>
-    ensures { IfOk result (λ text. sheet_bytes (sheet_of grammar.now) ≡ sheet.now → string_bytes text ≡ listing-of (sheet_of grammar.now) ++ closing_line (length sheet.now) true) }
+    ensures { IfOk result (λ text. sheet_bytes (sheet_of grammar.now) ≡ sheet.now → string_bytes text ≡ listing_of (sheet_of grammar.now) ++ closing_line (length sheet.now) true) }
 {
     let size = sheet.len();
     let mut room = vec![in heap; 0u8; size]?;

@@ -1,6 +1,6 @@
 //! Rules in readable notation.
 ghost use Rattle.grammar.specs.Meaning.{sheet};
-ghost use Rattle.inspection.specs.Rules.{rule_right, rule_text, if-rule};
+ghost use Rattle.inspection.specs.Rules.{rule_right, rule_text, if_rule};
 
 use crate::name::Name;
 use grammar::Grammar;
@@ -21,7 +21,7 @@ struct RightSide<'a> {
 }
 
 impl fmt::Display for RightSide<'_> {
-    ghost output = { λ x. if-rule (sheet x.grammar.now) rule_right x.rule };
+    ghost output = { λ x. if_rule (sheet x.grammar.now) rule_right x.rule };
 
     fn fmt<W: fmt::Write>(&self, f: &mut fmt::Formatter<W>) -> fmt::Result {
         let length = usize::from(self.grammar.length(self.rule));
@@ -37,7 +37,7 @@ impl fmt::Display for RightSide<'_> {
 }
 
 impl fmt::Display for RuleText<'_> {
-    ghost output = { λ x. if-rule (sheet x.grammar.now) rule_text x.rule };
+    ghost output = { λ x. if_rule (sheet x.grammar.now) rule_text x.rule };
 
     fn fmt<W: fmt::Write>(&self, f: &mut fmt::Formatter<W>) -> fmt::Result {
         let RuleText { grammar, rule } = *self;

@@ -15,4 +15,4 @@ returns-clause-writes g c = λ plain ok.
     has_written_of_eq g.W.Write.write_str_gives c.args.f.now (listing_by s t u n r) (listing s) c.write.new.self
     (listing_is s t u n r c.terminals-terminals.ensures c.nonterminals-nonterminals.ensures c.rules-rules.ensures c.saturating_add.ensures
     h.few_terminals h.few_nonterminals)
-    (c.write.ensures.shows plain ok)
+    (c.write.ensures.writes plain ok)

@@ -17,7 +17,7 @@ loop-rule-preserved g c = λ plain.
     let before = c.loop-rule.invariant plain in
     lines_more g.W.Write.write_str_gives (rule_line s) 0 c.args.f.now c.loop-rule.f c.writeln.new.self r (omega arith) before
     (prints_if g.W.Write.write_str_gives c.loop-rule.f c.writeln.new.self (Ok tt) (ltb r (rule_count s.grammar)) (rule_line s r) (codes "\n") here
-    c.in_ok-writeln.ensures.shows before.plain refl)
+    c.in_ok-writeln.ensures.writes before.plain refl)
 
 pub returns-clause-writes : goal.returns-clause-writes
 returns-clause-writes g c = λ plain ok.

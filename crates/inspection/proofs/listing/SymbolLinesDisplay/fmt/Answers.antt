@@ -15,7 +15,7 @@ loop-symbol-preserved g c = (
       let before = c.loop-symbol.invariant.1 plain in
       lines_more g.W.Write.write_str_gives (symbol_line (sheet c.args.self.now.grammar.now)) c.args.self.now.from c.args.f.now
       c.loop-symbol.f c.writeln.new.self c.loop-symbol.symbol (omega arith) before
-      (c.in_ok-writeln.ensures.shows before.plain (refl {a = true})),
+      (c.in_ok-writeln.ensures.writes before.plain (refl {a = true})),
 )
 
 pub returns-clause-writes : goal.returns-clause-writes

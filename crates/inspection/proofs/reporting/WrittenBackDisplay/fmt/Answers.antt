@@ -10,4 +10,4 @@ returns-clause-writes g c = λ plain ok.
     (codes "written back: " ++ (decimal n ++ (codes " bytes, " ++ (c.verdict-told.result.now ++ codes "\n")))) (closing_line n c.args.self.now.same)
     c.write.new.self
     (ap (λ told. codes "written back: " ++ (decimal n ++ (codes " bytes, " ++ (told ++ codes "\n")))) c.verdict-told.ensures)
-    (c.write.ensures.shows plain ok)
+    (c.write.ensures.writes plain ok)

@@ -28,7 +28,7 @@ loop-place-preserved g c = λ here plain.
     let before = c.loop-place.invariant here plain in
     right_more g.W.Write.write_str_gives c.args.f.now c.loop-place.f c.write.new.self s xs c.loop-place.place c.right.result
     (called c.of-symbol.result) some x
-    c.of-symbol.ensures before (c.in_ok-write.ensures.shows before.plain refl)
+    c.of-symbol.ensures before (c.in_ok-write.ensures.writes before.plain refl)
 
 pub returns-clause-writes : goal.returns-clause-writes
 returns-clause-writes g c =
