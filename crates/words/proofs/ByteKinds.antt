@@ -1,5 +1,5 @@
 -- What is known of bytes of some kinds.
-use Rattle.std.proofs.Common.{◌≡◌, ℕ, Bool, true, false, ◌⊎◌, subst, inl, inr}
+use Rattle.std.proofs.Common.{◌≡◌, ℕ, false, ◌⊎◌, subst, inl, inr}
 use Rattle.words.specs.Bytes.{is_blank, opens_remark, ends_remark, is_digit}
 use Rattle.words.specs.Kinds.{Kinded}
 use Rattle.words.specs.declared.kind.Kind.{Kind}

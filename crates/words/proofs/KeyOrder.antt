@@ -1,9 +1,9 @@
 -- The words of a key record are sound, and stand in order.
-use Rattle.std.proofs.Common.{◌≡◌, ℕ, zero, suc, ◌+◌, ◌*◌, ◌<◌, ◌≤◌, Bool, true, false, cond, eqb, ltb, List, [], ◌∷◌, length, IfOk, Ok, Err, Result, sym, refl, ap, ◌∙◌, subst, inl, inr, arith}
+use Rattle.std.proofs.Common.{◌≡◌, ℕ, zero, suc, ◌+◌, ◌<◌, ◌≤◌, Bool, true, false, cond, eqb, ltb, List, [], ◌∷◌, length, IfOk, Result, refl, subst, arith}
 use Rattle.std.specs.List.{AllByRecursion as All}
 use Rattle.std.proofs.lemmas.Bool.{ltb-true}
 use Rattle.words.specs.Keys.{amount_pressed, key_pressed, presses, key_coming}
-use Rattle.words.specs.Places.{Spot, Sound, Orderly}
+use Rattle.words.specs.Places.{Sound, Orderly}
 use Rattle.words.specs.declared.word.Word.{Word}
 use Rattle.words.specs.declared.fault.FeedFault.{FeedFault}
 use Rattle.words.proofs.Telling.{Row, told_in_order, told_words}

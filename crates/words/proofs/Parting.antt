@@ -1,9 +1,9 @@
 -- A part of a text, as it is handed out.
-use Rattle.std.proofs.Common.{◌≡◌, ℕ, ◌&&◌, leb, List, length, Some, None, Option, sym, ap, inl, inr, Bor}
+use Rattle.std.proofs.Common.{◌≡◌, ℕ, leb, List, length, Some, None, Option, ap, inl, inr, Bor}
 use Rattle.std.specs.Option.{option_map}
 use Rattle.std.specs.Slice.{IsGetRangeResult}
 use Rattle.std.proofs.lemmas.Bool.{and_from, and_left, and_right, le-leb, lt-leb}
-use Rattle.words.specs.Places.{part, part_of}
+use Rattle.words.specs.Places.{part_of}
 
 pub part_handed : (xs : List ℕ) (p q : ℕ) (o : Option (Bor (List ℕ))) → IsGetRangeResult xs p q o → option_map (λ x. x.now) o ≡ part_of xs p q
 part_handed xs p q None h =

@@ -1,9 +1,9 @@
 -- The first run of a text, and the runs behind it.
-use Rattle.std.proofs.Common.{◌≡◌, ℕ, suc, ◌+◌, ◌-◌, ◌<◌, ◌≤◌, Bool, true, false, cond, List, [], ◌∷◌, length, get_or, take, drop, sym, refl, ap, ◌∙◌, inl, inr, add-zero, arith}
+use Rattle.std.proofs.Common.{◌≡◌, ℕ, ◌+◌, ◌-◌, ◌<◌, true, false, List, [], ◌∷◌, length, get_or, take, drop, sym, refl, ap, ◌∙◌, inl, inr, add-zero, arith}
 use Rattle.std.proofs.lemmas.List.{drop_more, drop-drop}
 use Rattle.std.proofs.lemmas.Bool.{cases_Bool}
-use Rattle.words.specs.Bytes.{is_blank, opens_remark, ends_remark}
-use Rattle.words.specs.Runs.{Run, unremarked, front, begun, runs}
+use Rattle.words.specs.Bytes.{is_blank, opens_remark}
+use Rattle.words.specs.Runs.{unremarked, front, begun, runs}
 use Rattle.words.proofs.Scanning.{space_blank}
 
 -- The bytes before the first blank or remark.

@@ -1,10 +1,10 @@
 -- Byte by byte over a text: how its runs go on.
-use Rattle.std.proofs.Common.{◌≡◌, ℕ, ◌+◌, ◌<◌, ◌≤◌, Bool, true, false, cond, ◌⊎◌, List, [], ◌∷◌, length, get_or, drop, sym, refl, ap, ◌∙◌, inl, inr, add-zero, arith}
+use Rattle.std.proofs.Common.{◌≡◌, ℕ, ◌+◌, ◌<◌, ◌≤◌, Bool, true, false, ◌⊎◌, List, [], length, get_or, drop, refl, ◌∙◌, inl, inr, arith}
 use Rattle.std.proofs.lemmas.List.{at_drop_more, at_drop_all}
 use Rattle.std.proofs.lemmas.Bool.{false≢true}
 use Rattle.words.specs.Bytes.{is_blank, opens_remark, ends_remark}
 use Rattle.words.specs.Kinds.{Kinded}
-use Rattle.words.specs.Runs.{Run, unremarked, front, begun, runs}
+use Rattle.words.specs.Runs.{Run, unremarked, front, begun}
 use Rattle.words.specs.declared.kind.Kind.{Kind}
 use Rattle.words.specs.declared.kind.Kind.TheVariants.{Blank, LineFeed, Hash}
 use Rattle.words.proofs.ByteKinds.{WordByte, at_kind}

@@ -3,7 +3,7 @@ use Rattle.std.proofs.Common.{◌≡◌, ℕ, zero, suc, ◌+◌, ◌-◌, ◌<�
 use Rattle.std.proofs.lemmas.Bool.{cases_Bool, cases_lt, cases_order, both_ways, not-true, false≢true}
 use Rattle.std.proofs.lemmas.Bool.Decides.{nat_tests}
 use Rattle.words.specs.Bytes.{is_blank, opens_remark, ends_remark}
-use Rattle.words.specs.Runs.{Run, run_end, unremarked, front, begun, runs}
+use Rattle.words.specs.Runs.{unremarked, front, begun, runs}
 use Rattle.words.specs.Stretches.{InRemark, Solid, Stretch, Among, Splitting}
 use Rattle.words.proofs.Scanning.{space_blank}
 use Rattle.words.proofs.Standing.{line_feed_blank}

@@ -1,5 +1,5 @@
 -- What a text feed answers.
-use Rattle.std.proofs.Common.{◌≡◌, ℕ, ◌≤◌, true, false, List, [], ◌∷◌, map, length, drop, is_err, IsErrAnd, Some, None, Ok, Err, Result, sym, refl, ap, ◌∙◌, arith}
+use Rattle.std.proofs.Common.{◌≡◌, ℕ, ◌≤◌, true, false, List, ◌∷◌, map, length, drop, is_err, IsErrAnd, Some, None, Ok, Err, Result, sym, refl, ap, ◌∙◌, arith}
 use Rattle.grammar_format.specs.Sheets.{Sheet}
 use Rattle.words.specs.Feeds.{told, Handed}
 use Rattle.words.specs.Runs.{Run, runs}

@@ -5,7 +5,7 @@
 --   run_end r         the place up to which it stands
 --   begun i o xs      the runs that begin in the bytes xs, which stand from the place i on; o says whether a run is open there
 --   runs i xs         the runs of the bytes xs, which stand from the place i on
-use Rattle.std.specs.Prelude.{ℕ, ◌+◌, Bool, true, false, cond, not, ◌||◌, List, [], ◌∷◌, length}
+use Rattle.std.specs.Prelude.{ℕ, ◌+◌, Bool, true, false, cond, List, [], ◌∷◌, length}
 use Rattle.words.specs.Bytes.{is_blank, opens_remark, ends_remark}
 
 -- A remark goes from its `#` up to the line feed or the end.

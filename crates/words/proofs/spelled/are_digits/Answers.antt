@@ -1,6 +1,5 @@
-use Rattle.std.proofs.Common.{◌≡◌, true, false, get_or, drop, sym, ◌∙◌}
+use Rattle.std.proofs.Common.{sym, ◌∙◌}
 use Rattle.std.proofs.lemmas.List.{at_drop_more, at_drop_all}
-use Rattle.words.specs.Bytes.{is_digit}
 use Rattle.words.specs.Texts.{all_digits}
 use Rattle.words.proofs.ByteKinds.{no_digit_kinds}
 use Rattle.words.proofs.spelled.are_digits.Goals as goal

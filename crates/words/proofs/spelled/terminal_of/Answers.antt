@@ -1,4 +1,4 @@
-use Rattle.std.proofs.Common.{◌≡◌, length, sym, refl, ◌∙◌, arith}
+use Rattle.std.proofs.Common.{sym, refl, ◌∙◌, arith}
 use Rattle.grammar.proofs.Held.{held}
 use Rattle.grammar.specs.Meaning.{sheet}
 use Rattle.words.specs.Texts.{spelled_terminal}

@@ -22,6 +22,6 @@ pub returns-in_default : goal.returns-in_default
 unfolding is_blank opens_remark ends_remark is_digit
 returns-in_default c = search rules
 
-pub returns-in_default·2 : goal.returns-in_default·2
+pub returns-in_default-2 : goal.returns-in_default-2
 unfolding is_blank opens_remark ends_remark is_digit
-returns-in_default·2 c = search rules
+returns-in_default-2 c = search rules

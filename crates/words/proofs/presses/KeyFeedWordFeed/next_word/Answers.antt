@@ -15,6 +15,6 @@ returns c =
     elim c.match-first.branch [
       | in-Amount w ↦
           key_amount f.terminals f.keys.now f.place f.within w.in-Amount.hi w.in-Amount.lo w.in-Amount.ensures c.match-first.word
-          (w.word_is ∙ (λ j. record { terminal = 0; amount = 256 * w.from.ensures j + w.from-in-Amount.ensures j; from = f.place; to = f.place + 3 }))
-      | in-Key+else-terminal-self w ↦ key_word f.terminals f.keys.now f.place f.within w.in-Key.terminal w.in-Key.ensures c.match-first.word w.word_is w.if-terminal-self.false
+          (w.word-is ∙ (λ j. record { terminal = 0; amount = 256 * w.from.ensures j + w.from-in-Amount.ensures j; from = f.place; to = f.place + 3 }))
+      | in-Key+else-terminal-self w ↦ key_word f.terminals f.keys.now f.place f.within w.in-Key.terminal w.in-Key.ensures c.match-first.word w.word-is w.if-terminal-self.false
     ]

@@ -1,4 +1,4 @@
-use Rattle.std.proofs.Common.{◌≡◌, ◌-◌, ◌<◌, length, take, drop, Err, sym, ap, ◌∙◌, subst, arith}
+use Rattle.std.proofs.Common.{◌-◌, ◌<◌, length, take, drop, sym, subst, arith}
 use Rattle.grammar.specs.Meaning.{sheet}
 use Rattle.words.specs.Feeds.{Handed}
 use Rattle.words.specs.Meanings.{text_feed_coming}
