@@ -70,18 +70,19 @@ pub fn next<F: WordFeed>(feed: &mut F) -> Answer {
     }
 }
 
-/// The feed gives these answers, and then the last of them again and again.
+/// The feed of the case gives these answers, and then the last of them again and again.
 pub fn check_feed<F: WordFeed>(
     rt: &impl Abort,
+    what: &str,
     feed: &mut F,
     answers: &[Answer],
 ) -> Result<(), Fail> {
     let mut last = Answer::Strange;
     for answer in answers {
         last = *answer;
-        assert_eq!(rt; next(feed), last);
+        assert_eq!(rt; next(feed), last, "{what}");
     }
-    assert_eq!(rt; next(feed), last);
-    assert_eq!(rt; next(feed), last);
+    assert_eq!(rt; next(feed), last, "{what}");
+    assert_eq!(rt; next(feed), last, "{what}");
     Ok(())
 }

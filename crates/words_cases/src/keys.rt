@@ -84,18 +84,23 @@ const KEYS: [Case; 3] = [
     ),
 ];
 
-/// The record has these answers.
-fn check_record(rt: &impl Abort, record: &[u8], answers: &[Answer]) -> Result<(), Fail> {
+/// The record of the case has these answers.
+fn check_record(
+    rt: &impl Abort,
+    what: &str,
+    record: &[u8],
+    answers: &[Answer],
+) -> Result<(), Fail> {
     match Grammar::read(&SHEET) {
-        Ok(grammar) => check_feed(rt, &mut KeyFeed::new(&grammar, record), answers),
-        Err(_) => Err(Fail::new("no sheet")),
+        Ok(grammar) => check_feed(rt, what, &mut KeyFeed::new(&grammar, record), answers),
+        Err(_) => Err(Fail::new(format_args!("no sheet for {what}"))),
     }
 }
 
 /// Each of these records has its answers.
 fn check_records(rt: &impl Abort, cases: &[Case]) -> Result<(), Fail> {
     for (what, record, answers) in cases {
-        check_record(rt, record, answers).note(what)?;
+        check_record(rt, what, record, answers)?;
     }
     Ok(())
 }

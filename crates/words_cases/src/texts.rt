@@ -160,18 +160,18 @@ const WORDS: [Case; 10] = [
     ),
 ];
 
-/// The text has these answers.
-fn check_text(rt: &impl Abort, text: &[u8], answers: &[Answer]) -> Result<(), Fail> {
+/// The text of the case has these answers.
+fn check_text(rt: &impl Abort, what: &str, text: &[u8], answers: &[Answer]) -> Result<(), Fail> {
     match Grammar::read(&SHEET) {
-        Ok(grammar) => check_feed(rt, &mut TextFeed::new(&grammar, text), answers),
-        Err(_) => Err(Fail::new("no sheet")),
+        Ok(grammar) => check_feed(rt, what, &mut TextFeed::new(&grammar, text), answers),
+        Err(_) => Err(Fail::new(format_args!("no sheet for {what}"))),
     }
 }
 
 /// Each of these texts has its answers.
 fn check_texts(rt: &impl Abort, cases: &[Case]) -> Result<(), Fail> {
     for (what, text, answers) in cases {
-        check_text(rt, text, answers).note(what)?;
+        check_text(rt, what, text, answers)?;
     }
     Ok(())
 }
