@@ -1,12 +1,12 @@
 -- What a text means.
---   all_digits w          the bytes w are digits
---   same_spelling x w     the spelling x is the bytes w
---   spelled_from t xs w   of the spellings xs, which are those of the terminals from t on, the terminal of the first that is the bytes w
---   spelled_terminal s w       the terminal other than 0 whose spelling in the sheet s the bytes w are
---   amount_said r         what a run r of digits says
---   spelling_said r o     what any other run r says, o being the terminal that it spells
---   said s r              what the run r says: a word, or a fault
---   text_coming s i xs    the words of the bytes xs, which stand from the place i on
+--   all_digits w           the bytes w are digits
+--   same_spelling x w      the spelling x is the bytes w
+--   spelled_from t xs w    of the spellings xs, which are those of the terminals from t on, the terminal of the first that is the bytes w
+--   spelled_terminal s w   the terminal other than 0 whose spelling in the sheet s the bytes w are
+--   amount_said r          what a run r of digits says
+--   spelling_said r o      what any other run r says, o being the terminal that it spells
+--   said s r               what the run r says: a word, or a fault
+--   text_coming s i xs     the words of the bytes xs, which stand from the place i on
 use Rattle.std.specs.Prelude.{ℕ, ◌+◌, Bool, true, cond, ◌&&◌, List, [], ◌∷◌, map, length, drop, Some, None, Ok, Err, Option, Result, nat_le}
 use Rattle.std.specs.Str.Parse.{digits_value}
 use Rattle.std.specs.Str.{bytes_eq}
