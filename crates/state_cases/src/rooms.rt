@@ -20,15 +20,16 @@ fn holds(room: &[u8], bytes: &[u8]) -> bool {
 
 /// The table of P is written to a blank room of at least 60 bytes; another is refused, and stays as it was.
 fn check_room(rt: &impl Abort, built: &BuiltStates, room: &mut [u8]) -> Result<(), Fail> {
+    let length = room.len();
     match built.write(room) {
         Ok(count) => {
-            assert_eq!(rt; count, 60);
-            assert!(rt; holds(room, &P_TABLE));
+            assert_eq!(rt; count, 60, "in a room of {length}");
+            assert!(rt; holds(room, &P_TABLE), "in a room of {length}");
             Ok(())
         }
         Err(fault) => {
-            assert_eq!(rt; Answer::of(fault), Refused(31, 60, 0));
-            assert!(rt; room.len() < 60 && holds(room, &[]));
+            assert_eq!(rt; Answer::of(fault), Refused(31, 60, 0), "in a room of {length}");
+            assert!(rt; length < 60 && holds(room, &[]), "in a room of {length}");
             Ok(())
         }
     }
@@ -39,7 +40,7 @@ fn tables_are_written_where_there_is_room(rt: HostRuntime) -> Result<(), Fail> {
     let built = BuiltStates::build(&Grammar::read(&P)?)?;
     for length in 0..80 {
         let mut room = [BLANK; 80];
-        check_room(&rt, &built, &mut room[0..length]).note(length)?;
+        check_room(&rt, &built, &mut room[0..length])?;
     }
     Ok(())
 }

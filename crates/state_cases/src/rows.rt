@@ -35,15 +35,14 @@ static P_DONE: [Option<u8>; 6] = [None, None, Some(0), Some(1), None, Some(2)];
 static Q_ROWS: [[u8; 4]; 4] = [[1, 1, 1, 1], [0, 0, 2, 0], [2, 3, 1, 1], [0, 7, 1, 1]];
 
 /// The row has exactly the items that the bytes of the rules say.
-fn check_row(rt: &impl Abort, row: Row, bytes: &[u8]) -> Result<(), Fail> {
+fn check_row(rt: &impl Abort, state: usize, row: Row, bytes: &[u8]) -> Result<(), Fail> {
     for rule in 0..64 {
         let byte = bytes.get(rule).copied().unwrap_or(0);
         for dot in 0..8u8 {
             assert_eq!(rt;
                 row.holds(rule, usize::from(dot)),
                 (byte >> dot) & 1 == 1,
-                "{}",
-                rule
+                "rule {rule} of state {state}"
             );
         }
     }
@@ -85,7 +84,7 @@ fn built_states_of_p(rt: HostRuntime) -> Result<(), Fail> {
     let built = BuiltStates::build(&Grammar::read(&P)?)?;
     for (state, bytes) in P_ROWS.iter().enumerate() {
         let row = built.row(state as u8).ok_or("no such state")?;
-        check_row(&rt, row, bytes).note(state)?;
+        check_row(&rt, state, row, bytes)?;
     }
     assert!(rt; built.row(6).is_none());
     check_source(&rt, &built);
@@ -97,7 +96,7 @@ fn table_of_p(rt: HostRuntime) -> Result<(), Fail> {
     let table = Table::check(&Grammar::read(&P)?, &P_TABLE)?;
     for (state, bytes) in P_ROWS.iter().enumerate() {
         let row = table.row(state as u8).ok_or("no such state")?;
-        check_row(&rt, row, bytes).note(state)?;
+        check_row(&rt, state, row, bytes)?;
     }
     assert!(rt; table.row(6).is_none());
     check_source(&rt, &table);
@@ -110,7 +109,7 @@ fn built_states_of_q(rt: HostRuntime) -> Result<(), Fail> {
     assert_eq!(rt; built.states(), 4);
     for (state, bytes) in Q_ROWS.iter().enumerate() {
         let row = built.row(state as u8).ok_or("no such state")?;
-        check_row(&rt, row, bytes).note(state)?;
+        check_row(&rt, state, row, bytes)?;
     }
     Ok(())
 }
