@@ -1,5 +1,5 @@
 -- What a table's bounds say of its content.
-use Rattle.std.proofs.Common.{◌≡◌, ℕ, suc, ◌+◌, ◌*◌, ◌<◌, ◌≤◌, ◌⊎◌, List, [], ◌∷◌, ◌++◌, length, get_or, take, Some, None, Ok, Err, Option, Result, sym, refl, ap, ◌∙◌, subst, inl, inr, ⊎_elim, arith, length-take-le, get_or-take, MatchResult}
+use Rattle.std.proofs.Common.{◌≡◌, ℕ, ◌+◌, ◌<◌, ◌≤◌, List, [], ◌∷◌, ◌++◌, length, get_or, take, Some, Ok, Err, Option, Result, sym, refl, ap, ◌∙◌, subst, ⊎_elim, arith, length-take-le, get_or-take, MatchResult}
 use Rattle.std.proofs.lemmas.Bool.{cases_lt}
 use Rattle.std.proofs.lemmas.List.{length_push}
 use Rattle.parsing.specs.Items.{Source}
@@ -10,7 +10,7 @@ use Rattle.link_growth.specs.Growth.{Makes, shifts, reduces, Grown, same, add, O
 use Rattle.link_growth.proofs.Members.{mem_take, take_index, mem_last}
 use Rattle.link_growth.proofs.Grows.{grown_long, grown_same, grown_front}
 use Rattle.links.specs.declared.table.Table.{Table}
-use Rattle.links.specs.Tables.{content, StartsAt, Kept, Added, there, new, Refused, Placed, nowhere, somewhere, Turned}
+use Rattle.links.specs.Tables.{content, StartsAt, Kept, there, new, Placed, nowhere, somewhere, Turned}
 
 pub long : (t : Table) → length (content t) ≡ t.count
 long t = length-take-le t.count t.links (omega (arith, t.room, t.few))

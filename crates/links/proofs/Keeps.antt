@@ -1,5 +1,5 @@
 -- One word more, and fewer words.
-use Rattle.std.proofs.Common.{◌≡◌, ℕ, zero, suc, ◌+◌, ◌-◌, ◌<◌, ◌≤◌, true, false, ◌≢◌, ◌⊎◌, List, [], ◌∷◌, ◌++◌, length, get_or, take, drop, is_some as option_is_some, Some, None, Option, sym, refl, ap, ◌∙◌, subst, inl, inr, ⊎_elim, arith, length-take-le, take_all}
+use Rattle.std.proofs.Common.{◌≡◌, ℕ, suc, ◌+◌, ◌-◌, ◌<◌, ◌≤◌, true, false, ◌≢◌, List, [], ◌∷◌, ◌++◌, length, get_or, take, drop, is_some as option_is_some, Some, None, Option, sym, refl, ap, ◌∙◌, subst, inl, inr, ⊎_elim, arith, length-take-le, take_all}
 use Rattle.std.proofs.lemmas.Bool.{cases_lt, true≢false, false≢true}
 use Rattle.std.proofs.lemmas.List.{get_or_push, length_push, take-append-drop}
 use Rattle.parsing.specs.Items.{Source}
@@ -8,15 +8,15 @@ use Rattle.parsing.proofs.Soundness.{linked_place}
 use Rattle.parsing.proofs.Prefix.{linked_prefix}
 use Rattle.parsing.proofs.Least.{live_of}
 use Rattle.link_growth.specs.declared.Link.{Link}
-use Rattle.link_growth.specs.Entries.{lnk, at, Mem, Has, Once, nil}
-use Rattle.link_growth.specs.Growth.{Makes, shifts, Grown, same, Overfull, Shut, Stepped}
-use Rattle.link_growth.specs.Counting.{Exact, Exceeds, Steps}
+use Rattle.link_growth.specs.Entries.{lnk, at, Mem, Has, nil}
+use Rattle.link_growth.specs.Growth.{Makes, shifts, Grown, Overfull, Shut, Stepped}
+use Rattle.link_growth.specs.Counting.{Exact, Exceeds}
 use Rattle.link_growth.proofs.Members.{mem_take, take_index, mem_front, once_front}
 use Rattle.link_growth.proofs.Grows.{live_more, grown_mem, grown_has, grown_front, grown_old, grown_lift, overfull_lift}
 use Rattle.link_growth.proofs.Exacts.{True, grown_true, grown_once, whole, exceeds, fits}
 use Rattle.links.specs.declared.table.Table.{Table}
 use Rattle.links.specs.Tables.{content, StartsAt, Kept, Placed, Turned, FirstStepped, LinksStepped, Begun, Cut}
-use Rattle.links.proofs.Contents.{long, content_at, member, find, high_of, entry, content_same, count_more, kept_more, placed_grown, placed_has, turned_overfull}
+use Rattle.links.proofs.Contents.{long, content_at, member, find, high_of, entry, content_same, count_more, placed_grown, placed_has, turned_overfull}
 use Rattle.links.proofs.Rounds.{Along, along_same, along_more, along_overfull}
 
 -- A table holds the links of the words.

@@ -1,9 +1,8 @@
 -- What a set of cells holds, by its marks.
-use Rattle.std.proofs.Common.{◌≡◌, ℕ, ◌<◌, ◌≤◌, Bool, true, false, List, [], ◌∷◌, ◌++◌, length, get_or, take, sym, refl, ap, ◌∙◌, subst, inl, ⊎_elim, arith, length-take-le}
+use Rattle.std.proofs.Common.{◌≡◌, ℕ, true, false, List, [], ◌∷◌, ◌++◌, length, get_or, sym, ◌∙◌, inl, arith, length-take-le}
 use Rattle.link_growth.specs.Entries.{Mem, Once}
 use Rattle.link_growth.specs.Picking.{Inserted}
 use Rattle.link_growth.proofs.Members.{mem_left, mem_last, mem_split}
-use Rattle.links.specs.Listing.{listed, distinct}
 use Rattle.links.specs.declared.cells.Cells.{Cells}
 use Rattle.links.specs.Sets.{cells_of}
 use Rattle.links.proofs.Lists.{listed_mem, listed_not, distinct_once}

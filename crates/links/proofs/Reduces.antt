@@ -1,5 +1,5 @@
 -- What is picked from a table's entries is picked from its content.
-use Rattle.std.proofs.Common.{◌≡◌, ℕ, ◌<◌, ◌≤◌, true, List, [], length, sym, refl, ap, ◌∙◌, subst, inl, inr, ⊎_elim, arith}
+use Rattle.std.proofs.Common.{◌≡◌, ℕ, ◌<◌, true, List, [], length, sym, ap, ◌∙◌, subst, inl, inr, ⊎_elim, arith}
 use Rattle.parsing.specs.Items.{Source}
 use Rattle.link_growth.specs.declared.Link.{Link}
 use Rattle.link_growth.specs.Entries.{at, lower, Mem}

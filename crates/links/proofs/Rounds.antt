@@ -1,5 +1,5 @@
 -- Reductions one after another, until none makes anything new.
-use Rattle.std.proofs.Common.{◌≡◌, ℕ, suc, ◌+◌, ◌*◌, ◌/◌, ◌%◌, ◌<◌, ◌≤◌, ◌⊎◌, List, [], ◌∷◌, ◌++◌, length, get_or, take, Some, None, Option, sym, refl, ap, ◌∙◌, subst, inl, inr, ⊎_elim, arith, take_all}
+use Rattle.std.proofs.Common.{◌≡◌, ℕ, ◌+◌, ◌/◌, ◌%◌, ◌<◌, ◌≤◌, ◌⊎◌, List, [], ◌∷◌, ◌++◌, length, get_or, take, Some, None, Option, sym, ap, ◌∙◌, subst, inl, inr, ⊎_elim, arith}
 use Rattle.std.proofs.lemmas.Bool.{cases_lt}
 use Rattle.parsing.specs.Grammar.{rule_count}
 use Rattle.parsing.specs.Items.{Source}
@@ -8,13 +8,13 @@ use Rattle.link_growth.specs.Entries.{lnk, at, Mem, Has, Once, cell, lower, stay
 use Rattle.link_growth.specs.Picking.{Picked}
 use Rattle.link_growth.specs.Growth.{Makes, Grown, same, Overfull, Fired, Shut, Before, Fresh, Ends}
 use Rattle.link_growth.proofs.Members.{mem_left, mem_last, mem_split, take_index, mem_front}
-use Rattle.link_growth.proofs.Grows.{grown_has, grown_trans, grown_front, makes_more, overfull_more, chain_more}
+use Rattle.link_growth.proofs.Grows.{grown_has, grown_trans, makes_more, overfull_more}
 use Rattle.link_growth.proofs.Fires.{before_more, fresh_more, fired_more, fired_less, fired_before}
 use Rattle.links.specs.declared.table.Table.{Table}
-use Rattle.links.specs.Tables.{content, StartsAt, Kept, Added, there, new, Placed, nowhere, somewhere, Turned, Marked}
+use Rattle.links.specs.Tables.{content, StartsAt, Kept, there, new, Placed, nowhere, somewhere, Turned, Marked}
 use Rattle.links.proofs.Lists.{once_last}
 use Rattle.links.proofs.Changes.{starts_in}
-use Rattle.links.proofs.Contents.{long, member, find, high_of, count_more, content_same, content_at, kept_same, kept_more, placed_grown, placed_has, turned_overfull, turned_grown, makes_falls, falls_of}
+use Rattle.links.proofs.Contents.{long, member, find, count_more, content_same, content_at, kept_same, kept_more, placed_grown, placed_has, turned_overfull, makes_falls, falls_of}
 
 -- The table t has become u.
 pub record Along (src : Source) (w : Option ℕ) (t u : Table) (limit : ℕ) : Type 0 where

@@ -1,11 +1,10 @@
 -- Sets of cells as they are filled and emptied.
-use Rattle.std.proofs.Common.{◌≡◌, ℕ, suc, ◌+◌, ◌*◌, ◌/◌, ◌%◌, ◌<◌, ◌≤◌, true, ◌⊎◌, List, [], ◌∷◌, ◌++◌, map, length, get_or, take, sym, refl, ap, ◌∙◌, subst, inl, inr, ⊎_elim, arith, get_or-take}
+use Rattle.std.proofs.Common.{◌≡◌, ℕ, ◌+◌, ◌/◌, ◌<◌, ◌≤◌, true, List, [], ◌∷◌, map, length, get_or, take, sym, refl, ap, ◌∙◌, subst, inl, inr, ⊎_elim, arith, get_or-take}
 use Rattle.std.proofs.lemmas.List.{length-map}
 use Rattle.std.proofs.lemmas.Bool.{cases_lt}
 use Rattle.parsing.specs.Items.{Source}
-use Rattle.parsing.specs.Links.{LiveOf}
 use Rattle.link_growth.specs.declared.Link.{Link}
-use Rattle.link_growth.specs.Entries.{lnk, at, Small, Mem, head, tail, Has, cell, upper, lower, Spread}
+use Rattle.link_growth.specs.Entries.{at, Small, Mem, head, tail, Has, cell, upper, lower, Spread}
 use Rattle.link_growth.specs.Picking.{Inserted, Picked, Tops}
 use Rattle.link_growth.proofs.Members.{mem_index}
 use Rattle.link_growth.proofs.Picks.{room, mem_map}

@@ -2,7 +2,7 @@
 --   cells_of s         the cells of the set s
 --   Popped s r u       r is a cell of s, and u is s without it; or s is empty, and r is none
 --   Revisits s k r u   u has the cells of s, and where r says so, a cell before k is at the place of the cell k
-use Rattle.std.specs.Prelude.{◌≡◌, ℕ, ◌/◌, ◌<◌, Bool, true, List, [], ◌∷◌, ◌++◌, length, take, Some, None, Option, slice_index}
+use Rattle.std.specs.Prelude.{◌≡◌, ℕ, ◌/◌, ◌<◌, Bool, true, List, [], ◌∷◌, ◌++◌, take, Some, None, Option, slice_index}
 use Rattle.links.specs.declared.cells.Cells.{Cells}
 
 abbrev pub cells_of : Cells → List ℕ

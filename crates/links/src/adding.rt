@@ -103,9 +103,9 @@ impl Table {
         limit: usize,
     ) -> Result<(), TooManyLinks>
         requires bound { limit ≤ 4096 }
-        requires falls { (s : ℕ) → (meaning source.now).next b x ≡ Some s → i ≤ self.old.place }
+        requires falls { (s : ℕ) → (S.meaning source.now).next b x ≡ Some s → i ≤ self.old.place }
         ensures kept { Kept self.old self.new limit }
-        ensures cases { MatchResult result (λ _. Placed (meaning source.now) self.old.place x b i (content self.old) (content self.new)) (λ _. Turned (meaning source.now) self.old.place x b i limit (content self.old) (content self.new)) }
+        ensures cases { MatchResult result (λ _. Placed (S.meaning source.now) self.old.place x b i (content self.old) (content self.new)) (λ _. Turned (S.meaning source.now) self.old.place x b i limit (content self.old) (content self.new)) }
     {
         let Some(s) = source.next(b, x) else {
             return Ok(());
@@ -132,10 +132,10 @@ impl Table {
         limit: usize,
     ) -> Result<(), TooManyLinks>
         requires bound { limit ≤ 4096 }
-        requires falls { (s : ℕ) → (meaning source.now).next b x ≡ Some s → i ≤ self.old.place }
-        requires fresh { (s : ℕ) → (meaning source.now).next b x ≡ Some s → Has (content self.old) s self.old.place b i → ⊥ }
+        requires falls { (s : ℕ) → (S.meaning source.now).next b x ≡ Some s → i ≤ self.old.place }
+        requires fresh { (s : ℕ) → (S.meaning source.now).next b x ≡ Some s → Has (content self.old) s self.old.place b i → ⊥ }
         ensures kept { Kept self.old self.new limit }
-        ensures cases { MatchResult result (λ _. Placed (meaning source.now) self.old.place x b i (content self.old) (content self.new)) (λ _. Turned (meaning source.now) self.old.place x b i limit (content self.old) (content self.new)) }
+        ensures cases { MatchResult result (λ _. Placed (S.meaning source.now) self.old.place x b i (content self.old) (content self.new)) (λ _. Turned (S.meaning source.now) self.old.place x b i limit (content self.old) (content self.new)) }
     {
         let Some(s) = source.next(b, x) else {
             return Ok(());

@@ -26,10 +26,10 @@ fn descend<S: StateSource>(
     limit: usize,
 ) -> Result<(), TooManyLinks>
     requires bound { limit ≤ 4096 }
-    requires allowed { Ends (meaning source.now) x steps (cells_of here.old) (content table.old) (Makes (meaning source.now) None table.old.place (content table.old)) }
+    requires allowed { Ends (S.meaning source.now) x steps (cells_of here.old) (content table.old) (Makes (S.meaning source.now) None table.old.place (content table.old)) }
     ensures kept { Kept table.old table.new limit }
-    ensures grown { Grown (meaning source.now) None table.old.place (content table.old) (content table.new) }
-    ensures cases { MatchResult result (λ _. Ends (meaning source.now) x steps (cells_of here.old) (content table.old) (λ s b i. Has (content table.new) s table.old.place b i)) (λ _. Overfull (meaning source.now) None table.old.place (content table.old) limit) }
+    ensures grown { Grown (S.meaning source.now) None table.old.place (content table.old) (content table.new) }
+    ensures cases { MatchResult result (λ _. Ends (S.meaning source.now) x steps (cells_of here.old) (content table.old) (λ s b i. Has (content table.new) s table.old.place b i)) (λ _. Overfull (S.meaning source.now) None table.old.place (content table.old) limit) }
 {
     if steps == 0 {
         return fire(source, table, here, there, x, limit);
@@ -64,14 +64,14 @@ impl Links {
         limit: usize,
     ) -> Result<(), TooManyLinks>
         requires bound { limit ≤ 4096 }
-        requires rule { rule < rule_count (meaning source.now).grammar }
+        requires rule { rule < rule_count (S.meaning source.now).grammar }
         requires since { slice_index self.old.table.starts self.old.table.place ≤ from }
         requires until { from ≤ self.old.table.count }
         requires fresh { Fresh self.old.table.place from (content self.old.table) }
-        requires before { Before (meaning source.now) self.old.table.place from (content self.old.table) }
+        requires before { Before (S.meaning source.now) self.old.table.place from (content self.old.table) }
         ensures kept { Kept self.old.table self.new.table limit }
-        ensures grown { Grown (meaning source.now) None self.old.table.place (content self.old.table) (content self.new.table) }
-        ensures cases { MatchResult result (λ _. Fired (meaning source.now) self.old.table.place rule (content self.old.table) (content self.new.table)) (λ _. Overfull (meaning source.now) None self.old.table.place (content self.old.table) limit) }
+        ensures grown { Grown (S.meaning source.now) None self.old.table.place (content self.old.table) (content self.new.table) }
+        ensures cases { MatchResult result (λ _. Fired (S.meaning source.now) self.old.table.place rule (content self.old.table) (content self.new.table)) (λ _. Overfull (S.meaning source.now) None self.old.table.place (content self.old.table) limit) }
     {
         let x = source.left(rule as usize);
         let length = source.length(rule as usize);
@@ -110,10 +110,10 @@ impl Links {
         requires since { slice_index self.old.table.starts self.old.table.place ≤ from }
         requires until { from ≤ self.old.table.count }
         requires fresh { Fresh self.old.table.place from (content self.old.table) }
-        requires before { Before (meaning source.now) self.old.table.place from (content self.old.table) }
+        requires before { Before (S.meaning source.now) self.old.table.place from (content self.old.table) }
         ensures kept { Kept self.old.table self.new.table limit }
-        ensures grown { Grown (meaning source.now) None self.old.table.place (content self.old.table) (content self.new.table) }
-        ensures cases { MatchResult result (λ _. (r : ℕ) → r < rule_count (meaning source.now).grammar → Fired (meaning source.now) self.old.table.place r (content self.old.table) (content self.new.table)) (λ _. Overfull (meaning source.now) None self.old.table.place (content self.old.table) limit) }
+        ensures grown { Grown (S.meaning source.now) None self.old.table.place (content self.old.table) (content self.new.table) }
+        ensures cases { MatchResult result (λ _. (r : ℕ) → r < rule_count (S.meaning source.now).grammar → Fired (S.meaning source.now) self.old.table.place r (content self.old.table) (content self.new.table)) (λ _. Overfull (S.meaning source.now) None self.old.table.place (content self.old.table) limit) }
     {
         for rule in 0..source.rules() {
             self.reduce(source, rule, from, limit)?;
@@ -130,8 +130,8 @@ impl Links {
     ) -> Result<(), TooManyLinks>
         requires { limit ≤ 4096 }
         ensures kept { Kept self.old.table self.new.table limit }
-        ensures grown { Grown (meaning source.now) None self.old.table.place (content self.old.table) (content self.new.table) }
-        ensures cases { MatchResult result (λ _. Shut (meaning source.now) self.old.table.place (content self.new.table)) (λ _. Overfull (meaning source.now) None self.old.table.place (content self.old.table) limit) }
+        ensures grown { Grown (S.meaning source.now) None self.old.table.place (content self.old.table) (content self.new.table) }
+        ensures cases { MatchResult result (λ _. Shut (S.meaning source.now) self.old.table.place (content self.new.table)) (λ _. Overfull (S.meaning source.now) None self.old.table.place (content self.old.table) limit) }
     {
         let start = self.table.start_of(self.table.place as usize);
         let mut from = start;

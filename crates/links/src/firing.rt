@@ -13,8 +13,8 @@ use states::StateSource;
 
 /// Whether the step of the state b by the symbol x is the state s.
 fn leads_to<S: StateSource>(source: &S, b: u8, x: u8, s: u8) -> bool
-    ensures so { result ≡ true → (meaning source.now).next b x ≡ Some s }
-    ensures other { result ≡ false → (meaning source.now).next b x ≢ Some s }
+    ensures so { result ≡ true → (S.meaning source.now).next b x ≡ Some s }
+    ensures other { result ≡ false → (S.meaning source.now).next b x ≢ Some s }
 {
     match source.next(b, x) {
         Some(next) => next == s,
@@ -25,7 +25,7 @@ fn leads_to<S: StateSource>(source: &S, b: u8, x: u8, s: u8) -> bool
 /// Adds the cells of `here` that have their link by the symbol x at the last place already.
 fn mark_linked<S: StateSource>(source: &S, table: &Table, here: &Cells, there: &mut Cells, x: u8)
     requires { cells_of there.old ≡ [] }
-    ensures { Marked (meaning source.now) x table.now.place (content table.now) (cells_of here.now) (cells_of there.new) }
+    ensures { Marked (S.meaning source.now) x table.now.place (content table.now) (cells_of here.now) (cells_of there.new) }
 {
     let start = table.start_of(table.place as usize);
     for k in start..table.count {
@@ -47,10 +47,10 @@ pub(crate) fn fire<S: StateSource>(
     limit: usize,
 ) -> Result<(), TooManyLinks>
     requires bound { limit ≤ 4096 }
-    requires allowed { Ends (meaning source.now) x 0 (cells_of here.old) (content table.old) (Makes (meaning source.now) None table.old.place (content table.old)) }
+    requires allowed { Ends (S.meaning source.now) x 0 (cells_of here.old) (content table.old) (Makes (S.meaning source.now) None table.old.place (content table.old)) }
     ensures kept { Kept table.old table.new limit }
-    ensures grown { Grown (meaning source.now) None table.old.place (content table.old) (content table.new) }
-    ensures cases { MatchResult result (λ _. Ends (meaning source.now) x 0 (cells_of here.old) (content table.old) (λ s b i. Has (content table.new) s table.old.place b i)) (λ _. Overfull (meaning source.now) None table.old.place (content table.old) limit) }
+    ensures grown { Grown (S.meaning source.now) None table.old.place (content table.old) (content table.new) }
+    ensures cases { MatchResult result (λ _. Ends (S.meaning source.now) x 0 (cells_of here.old) (content table.old) (λ s b i. Has (content table.new) s table.old.place b i)) (λ _. Overfull (S.meaning source.now) None table.old.place (content table.old) limit) }
 {
     if here.count == 0 {
         return Ok(());

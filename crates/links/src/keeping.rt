@@ -24,7 +24,7 @@ impl Links {
     /// Closes place 0 of a table that is blank.
     fn begin<S: StateSource>(&mut self, source: &S, limit: usize) -> Result<(), TooManyLinks>
         requires { Blank self.old }
-        ensures { Opened (meaning source.now) limit self.old result self.new }
+        ensures { Opened (S.meaning source.now) limit self.old result self.new }
     {
         match self.close(source, limit.min(4096)) {
             Ok(()) => Ok(()),
@@ -37,7 +37,7 @@ impl Links {
 
     /// The links of no words. A table that is blank is closed at place 0; one that holds the links of some words is cut back to it.
     pub fn open<S: StateSource>(&mut self, source: &S, limit: usize) -> Result<(), TooManyLinks>
-        ensures { Ready (meaning source.now) self.old → Opened (meaning source.now) limit self.old result self.new }
+        ensures { Ready (S.meaning source.now) self.old → Opened (S.meaning source.now) limit self.old result self.new }
     {
         if self.table.place == 0 && self.table.count == 0 {
             return self.begin(source, limit);

@@ -20,7 +20,7 @@ pub(crate) fn seed_below<S: StateSource>(
 )
     requires empty { cells_of here.old ≡ [] }
     requires until { from ≤ table.now.count }
-    ensures { Picked (λ k. (meaning source.now).done (at table.now.links k).state rule ≡ true) (λ k. lower (at table.now.links k)) from table.now.count [] (cells_of here.new) }
+    ensures { Picked (λ k. (S.meaning source.now).done (at table.now.links k).state rule ≡ true) (λ k. lower (at table.now.links k)) from table.now.count [] (cells_of here.new) }
 {
     for k in from..table.count {
         let link = table.links[k];
@@ -33,7 +33,7 @@ pub(crate) fn seed_below<S: StateSource>(
 /// Adds the first state, where it is live at the last place and the rule is done in it.
 fn seed_first<S: StateSource>(source: &S, table: &Table, here: &mut Cells, rule: u8)
     requires { cells_of here.old ≡ [] }
-    ensures { Bottom (meaning source.now) table.now.place rule (cells_of here.new) }
+    ensures { Bottom (S.meaning source.now) table.now.place rule (cells_of here.new) }
 {
     if table.place == 0 {
         let first = source.first();
@@ -54,7 +54,7 @@ pub(crate) fn seed_tops<S: StateSource>(
     requires empty { cells_of here.old ≡ [] }
     requires since { slice_index table.now.starts table.now.place ≤ from }
     requires until { from ≤ table.now.count }
-    ensures { Tops (meaning source.now) table.now.place rule from (content table.now) (cells_of here.new) }
+    ensures { Tops (S.meaning source.now) table.now.place rule from (content table.now) (cells_of here.new) }
 {
     seed_first(source, table, here, rule);
     for k in from..table.count {

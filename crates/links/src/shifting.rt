@@ -42,8 +42,8 @@ impl Table {
 
     /// Whether some state that is live at the last place has a step by the symbol x.
     pub(crate) fn steps<S: StateSource>(&self, source: &S, x: u8) -> bool
-        ensures some { result ≡ true → (b : ℕ) × LiveOf (meaning source.now) (Has (content self.now)) b self.now.place × ((meaning source.now).next b x ≢ None) }
-        ensures none { result ≡ false → (b : ℕ) → LiveOf (meaning source.now) (Has (content self.now)) b self.now.place → (meaning source.now).next b x ≡ None }
+        ensures some { result ≡ true → (b : ℕ) × LiveOf (S.meaning source.now) (Has (content self.now)) b self.now.place × ((S.meaning source.now).next b x ≢ None) }
+        ensures none { result ≡ false → (b : ℕ) → LiveOf (S.meaning source.now) (Has (content self.now)) b self.now.place → (S.meaning source.now).next b x ≡ None }
     {
         if self.place == 0 && source.next(source.first(), x).is_some() {
             return true;
@@ -66,10 +66,10 @@ impl Table {
     ) -> Result<(), TooManyLinks>
         requires bound { limit ≤ 4096 }
         requires later { 0 < self.old.place }
-        requires word { x < (meaning source.now).grammar.terminals }
+        requires word { x < (S.meaning source.now).grammar.terminals }
         ensures kept { Kept self.old self.new limit }
-        ensures grown { Grown (meaning source.now) (Some x) self.old.place (content self.old) (content self.new) }
-        ensures cases { MatchResult result (λ _. FirstStepped (meaning source.now) x self.old.place (content self.new)) (λ _. Overfull (meaning source.now) (Some x) self.old.place (content self.old) limit) }
+        ensures grown { Grown (S.meaning source.now) (Some x) self.old.place (content self.old) (content self.new) }
+        ensures cases { MatchResult result (λ _. FirstStepped (S.meaning source.now) x self.old.place (content self.new)) (λ _. Overfull (S.meaning source.now) (Some x) self.old.place (content self.old) limit) }
     {
         if self.place != 1 {
             return Ok(());
@@ -87,10 +87,10 @@ impl Table {
     ) -> Result<(), TooManyLinks>
         requires bound { limit ≤ 4096 }
         requires later { 0 < self.old.place }
-        requires word { x < (meaning source.now).grammar.terminals }
+        requires word { x < (S.meaning source.now).grammar.terminals }
         ensures kept { Kept self.old self.new limit }
-        ensures grown { Grown (meaning source.now) (Some x) self.old.place (content self.old) (content self.new) }
-        ensures cases { MatchResult result (λ _. LinksStepped (meaning source.now) x self.old.place (content self.old) (content self.new)) (λ _. Overfull (meaning source.now) (Some x) self.old.place (content self.old) limit) }
+        ensures grown { Grown (S.meaning source.now) (Some x) self.old.place (content self.old) (content self.new) }
+        ensures cases { MatchResult result (λ _. LinksStepped (S.meaning source.now) x self.old.place (content self.old) (content self.new)) (λ _. Overfull (S.meaning source.now) (Some x) self.old.place (content self.old) limit) }
     {
         let below = self.place - 1;
         let start = self.start_of(below as usize);
@@ -111,10 +111,10 @@ impl Table {
     ) -> Result<(), TooManyLinks>
         requires bound { limit ≤ 4096 }
         requires later { 0 < self.old.place }
-        requires word { x < (meaning source.now).grammar.terminals }
+        requires word { x < (S.meaning source.now).grammar.terminals }
         ensures kept { Kept self.old self.new limit }
-        ensures grown { Grown (meaning source.now) (Some x) self.old.place (content self.old) (content self.new) }
-        ensures cases { MatchResult result (λ _. Stepped (meaning source.now) x self.old.place (self.old.place - 1) (content self.old) (content self.new)) (λ _. Overfull (meaning source.now) (Some x) self.old.place (content self.old) limit) }
+        ensures grown { Grown (S.meaning source.now) (Some x) self.old.place (content self.old) (content self.new) }
+        ensures cases { MatchResult result (λ _. Stepped (S.meaning source.now) x self.old.place (self.old.place - 1) (content self.old) (content self.new)) (λ _. Overfull (S.meaning source.now) (Some x) self.old.place (content self.old) limit) }
     {
         self.shift_first(source, x, limit)?;
         self.shift_links(source, x, limit)
@@ -131,10 +131,10 @@ impl Links {
     ) -> Result<(), TooManyLinks>
         requires bound { limit ≤ 4096 }
         requires later { 0 < self.old.table.place }
-        requires word { x < (meaning source.now).grammar.terminals }
+        requires word { x < (S.meaning source.now).grammar.terminals }
         ensures kept { Kept self.old.table self.new.table limit }
-        ensures grown { Grown (meaning source.now) (Some x) self.old.table.place (content self.old.table) (content self.new.table) }
-        ensures cases { MatchResult result (λ _. Stepped (meaning source.now) x self.old.table.place (self.old.table.place - 1) (content self.old.table) (content self.new.table) × Shut (meaning source.now) self.old.table.place (content self.new.table)) (λ _. Overfull (meaning source.now) (Some x) self.old.table.place (content self.old.table) limit) }
+        ensures grown { Grown (S.meaning source.now) (Some x) self.old.table.place (content self.old.table) (content self.new.table) }
+        ensures cases { MatchResult result (λ _. Stepped (S.meaning source.now) x self.old.table.place (self.old.table.place - 1) (content self.old.table) (content self.new.table) × Shut (S.meaning source.now) self.old.table.place (content self.new.table)) (λ _. Overfull (S.meaning source.now) (Some x) self.old.table.place (content self.old.table) limit) }
     {
         self.table.shift(source, x, limit)?;
         self.close(source, limit)

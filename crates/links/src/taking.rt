@@ -14,7 +14,7 @@ impl Links {
         terminal: usize,
         limit: usize,
     ) -> Result<(), TakeFault>
-        ensures { (ws : List ℕ) → Holds (meaning source.now) ws self.old → Took (meaning source.now) ws terminal limit self.old self.new result }
+        ensures { (ws : List ℕ) → Holds (S.meaning source.now) ws self.old → Took (S.meaning source.now) ws terminal limit self.old self.new result }
     {
         let place = self.table.place;
         if place >= 254 {

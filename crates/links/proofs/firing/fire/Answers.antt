@@ -1,4 +1,4 @@
-use Rattle.std.proofs.Common.{◌≡◌, ℕ, take, None, sym, ap, subst}
+use Rattle.std.proofs.Common.{ℕ, take, None, ap}
 use Rattle.std.proofs.lemmas.Result.{err_from_is_err_and}
 use Rattle.link_growth.specs.Entries.{Has}
 use Rattle.link_growth.specs.Growth.{same}
@@ -31,8 +31,8 @@ put_new-requires g c = record {
   fresh = firing_fresh (cells_of c.pop.new.self) c.in-Some.c c.in-Some.ensures.split c.loop-c.invariant c.requires.allowed (c.has.ensures.absent c.if-not-has.true);
 }
 
-pub loop-c-preserved-in-Continue· : goal.loop-c-preserved-in-Continue·
-loop-c-preserved-in-Continue· g c =
+pub loop-c-preserved-in-Continue-1 : goal.loop-c-preserved-in-Continue-1
+loop-c-preserved-in-Continue-1 g c =
     firing_more (cells_of c.pop.new.self) c.in-Some.c c.in-Some.ensures.split c.loop-c.invariant c.requires.allowed (each_once c.loop-c.here) c.put_new.ensures.kept c.in_ok-put_new.ensures.cases
 
 pub loop-c-preserved : goal.loop-c-preserved

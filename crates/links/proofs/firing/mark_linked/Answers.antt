@@ -1,4 +1,4 @@
-use Rattle.std.proofs.Common.{◌≡◌, ℕ, ◌<◌, ◌≤◌, Some, sym, subst, arith}
+use Rattle.std.proofs.Common.{◌≡◌, ℕ, ◌≤◌, Some, sym, subst, arith}
 use Rattle.link_growth.specs.Entries.{at, lower, Mem}
 use Rattle.links.specs.Sets.{cells_of}
 use Rattle.links.specs.Tables.{content}
@@ -7,7 +7,7 @@ use Rattle.links.proofs.Spreads.{drawn_none, drawn_more, drawn_room}
 use Rattle.links.proofs.firing.mark_linked.Goals as goal
 
 pub insert-requires : goal.insert-requires
-insert-requires g c κs none =
+insert-requires g c none =
     let t = c.args.table.now in
     let src = g.S.StateSource.meaning c.args.source.now in
     let P : ℕ → Type 0 = λ h. Mem (lower (at t.links h)) (cells_of c.args.here.now) × (src.next (at t.links h).below c.args.x ≡ Some (at t.links h).state) in

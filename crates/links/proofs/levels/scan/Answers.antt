@@ -1,5 +1,5 @@
 use Rattle.std.proofs.Common.{◌≡◌, ℕ, ◌<◌, ◌≤◌, sym, subst, arith}
-use Rattle.link_growth.specs.Entries.{at, upper, lower, Mem}
+use Rattle.link_growth.specs.Entries.{at, upper, Mem}
 use Rattle.links.specs.Sets.{cells_of}
 use Rattle.links.proofs.Contents.{starts_le}
 use Rattle.links.proofs.Spreads.{drawn_more, drawn_room, scanned}

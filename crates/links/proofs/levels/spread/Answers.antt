@@ -1,4 +1,4 @@
-use Rattle.std.proofs.Common.{◌≡◌, ◌+◌, ◌<◌, ◌≤◌, sym, refl, ◌∙◌, subst, arith}
+use Rattle.std.proofs.Common.{◌+◌, sym, refl, ◌∙◌, subst, arith}
 use Rattle.links.specs.declared.cells.Cells.{Cells}
 use Rattle.links.specs.Sets.{cells_of}
 use Rattle.links.specs.Tables.{content}

@@ -1,4 +1,4 @@
-use Rattle.std.proofs.Common.{◌≡◌, ℕ, ◌<◌, ◌≤◌, true, [], sym, subst, arith}
+use Rattle.std.proofs.Common.{◌≡◌, ℕ, ◌≤◌, true, [], sym, subst, arith}
 use Rattle.link_growth.specs.Entries.{at, lower, Mem}
 use Rattle.link_growth.specs.Picking.{Picked}
 use Rattle.links.specs.Sets.{cells_of}
@@ -7,7 +7,7 @@ use Rattle.links.proofs.Spreads.{drawn_none, drawn_more, drawn_room}
 use Rattle.links.proofs.seeds.seed_below.Goals as goal
 
 pub insert-requires : goal.insert-requires
-insert-requires g c κs none =
+insert-requires g c none =
     let t = c.args.table.now in
     let P : ℕ → Type 0 = λ h. (g.S.StateSource.meaning c.args.source.now).done (at t.links h).state c.args.rule ≡ true in
     let le : c.loop-k.k ≤ t.count = omega (arith, c.loop-k-test.true) in

@@ -1,7 +1,6 @@
-use Rattle.std.proofs.Common.{◌≡◌, ℕ, ◌<◌, [], sym, ap, ◌∙◌, subst, ⊎_elim, arith}
+use Rattle.std.proofs.Common.{◌≡◌, sym, ap, ◌∙◌, arith}
 use Rattle.std.proofs.lemmas.Bool.{both_ways}
-use Rattle.link_growth.specs.Entries.{cell, Mem}
-use Rattle.links.specs.Sets.{cells_of}
+use Rattle.link_growth.specs.Entries.{cell}
 use Rattle.links.proofs.Spreads.{bottom_here, bottom_none}
 use Rattle.links.proofs.seeds.seed_first.Goals as goal
 

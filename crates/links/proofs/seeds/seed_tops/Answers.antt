@@ -1,11 +1,11 @@
-use Rattle.std.proofs.Common.{◌≡◌, ℕ, ◌<◌, ◌≤◌, true, sym, subst, arith}
-use Rattle.link_growth.specs.Entries.{at, upper, cell, Mem}
+use Rattle.std.proofs.Common.{◌≡◌, ℕ, ◌≤◌, true, sym, subst, arith}
+use Rattle.link_growth.specs.Entries.{at, cell, Mem}
 use Rattle.links.specs.Sets.{cells_of}
 use Rattle.links.proofs.Spreads.{tops_room, tops}
 use Rattle.links.proofs.seeds.seed_tops.Goals as goal
 
 pub insert-requires : goal.insert-requires
-insert-requires g c κs none =
+insert-requires g c none =
     let t = c.args.table.now in
     let src = g.S.StateSource.meaning c.args.source.now in
     let P : ℕ → Type 0 = λ h. src.done (at t.links h).state c.args.rule ≡ true in

@@ -1,4 +1,4 @@
-use Rattle.std.proofs.Common.{◌≡◌, ℕ, ◌<◌, true, false, List, [], ◌∷◌, length, get_or, set, sym, refl, ◌∙◌, subst, arith, length-set}
+use Rattle.std.proofs.Common.{◌≡◌, ℕ, ◌<◌, true, false, length, get_or, set, sym, ◌∙◌, subst, arith, length-set}
 use Rattle.std.proofs.lemmas.List.{take_more_set}
 use Rattle.link_growth.specs.Picking.{Inserted}
 use Rattle.link_growth.proofs.Members.{once_push}
@@ -22,22 +22,15 @@ invariant_of-self c =
     let e = size s in
     let h = c.requires none in
     let lt : s.count < length s.list = omega (arith, s.room) in
-    let more = take_more_set s.list s.count x lt in (
-      length-set s.marks x true ∙ s.flags,
-      (
-        length-set s.list s.count x ∙ s.room,
-        (
-          omega arith,
-          (
-            below_set (λ (v : ℕ). v < 65536) 0 s.list s.count x lt s.small (omega arith),
-            (
-              (λ d. subst (λ v. get_or (set s.marks x true) d false ≡ listed d v) (sym more) (mark_more s.marks (cells_of s) x (omega (arith, s.flags)) s.marked d)),
-              (subst (λ v. distinct v ≡ true) (sym more) (once_distinct (once_push (cells_of s) x (each_once s) none)), tt),
-            ),
-          ),
-        ),
-      ),
-    )
+    let more = take_more_set s.list s.count x lt in
+    record {
+      flags = length-set s.marks x true ∙ s.flags;
+      room = length-set s.list s.count x ∙ s.room;
+      few = omega arith;
+      small = below_set (λ (v : ℕ). v < 65536) 0 s.list s.count x lt s.small (omega arith);
+      marked = λ d. subst (λ v. get_or (set s.marks x true) d false ≡ listed d v) (sym more) (mark_more s.marks (cells_of s) x (omega (arith, s.flags)) s.marked d);
+      once = subst (λ v. distinct v ≡ true) (sym more) (once_distinct (once_push (cells_of s) x (each_once s) none));
+    }
 
 pub returns : goal.returns
 returns c =

@@ -1,4 +1,4 @@
-use Rattle.std.proofs.Common.{◌≡◌, take, sym, refl, subst, arith, take_all}
+use Rattle.std.proofs.Common.{take, sym, subst, arith, take_all}
 use Rattle.links.specs.Holding.{Holds}
 use Rattle.links.proofs.Keeps.{Held, cut_held}
 use Rattle.links.proofs.links.Links.back.Goals as goal

@@ -1,6 +1,4 @@
-use Rattle.std.proofs.Common.{◌≡◌, None, sym, ◌∙◌, subst}
-use Rattle.parsing.specs.Items.{Source}
-use Rattle.link_growth.specs.Counting.{Exceeds}
+use Rattle.std.proofs.Common.{None, sym, ◌∙◌, subst}
 use Rattle.link_growth.specs.Growth.{Overfull}
 use Rattle.links.specs.Holding.{most}
 use Rattle.links.specs.Tables.{content}

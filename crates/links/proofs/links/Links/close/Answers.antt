@@ -1,7 +1,7 @@
-use Rattle.std.proofs.Common.{◌≡◌, ◌+◌, ◌*◌, ◌<◌, ◌≤◌, None, sym, refl, ap, ◌∙◌, subst, arith}
+use Rattle.std.proofs.Common.{None, refl, arith}
 use Rattle.std.proofs.lemmas.Result.{err_from_is_err_and}
 use Rattle.links.proofs.Contents.{count_more}
-use Rattle.links.proofs.Rounds.{Along, along_same, along_more, along_overfull, Ahead, ahead_start, ahead_again, ahead_next, shut_now}
+use Rattle.links.proofs.Rounds.{Along, along_same, along_more, along_overfull, ahead_start, ahead_again, ahead_next, shut_now}
 use Rattle.links.proofs.links.Links.close.Goals as goal
 
 pub loop-from-init : goal.loop-from-init

@@ -1,4 +1,4 @@
-use Rattle.std.proofs.Common.{◌≡◌, Some, None}
+use Rattle.std.proofs.Common.{Some, None}
 use Rattle.links.proofs.Contents.{both}
 use Rattle.links.proofs.Rounds.{Along}
 use Rattle.links.proofs.Keeps.{extended, extended_stepped, extended_overfull}

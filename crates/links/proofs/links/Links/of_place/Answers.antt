@@ -13,11 +13,11 @@ returns c =
     let f = of_place c.args.self.now c.args.place c.start_of-start.result c.start_of-end.result c.start_of-start.ensures c.start_of-end.ensures in
     record { value = f; linked = place_linked f }
 
-pub slice-bounds-result-count-2 : goal.slice-bounds-result-count-2
-slice-bounds-result-count-2 c = starts_le c.start_of-start.ensures c.start_of-end.ensures
+pub slice_bounds-result-count-2 : goal.slice_bounds-result-count-2
+slice_bounds-result-count-2 c = starts_le c.start_of-start.ensures c.start_of-end.ensures
 
-pub slice-bounds-result-start-2 : goal.slice-bounds-result-start-2
-slice-bounds-result-start-2 c =
+pub slice_bounds-result-start-2 : goal.slice_bounds-result-start-2
+slice_bounds-result-start-2 c =
     let le = starts_le c.start_of-start.ensures c.start_of-end.ensures in
     let inside = c.start_of-end.ensures.within in
     let few = c.args.self.now.table.few in

@@ -1,4 +1,4 @@
-use Rattle.std.proofs.Common.{◌≡◌, ℕ, ◌<◌, ◌≤◌, sym, subst, arith}
+use Rattle.std.proofs.Common.{◌≡◌, ◌<◌, ◌≤◌, subst}
 use Rattle.links.specs.Holding.{most}
 use Rattle.links.proofs.Calls.{again_refused, again_opened}
 use Rattle.links.proofs.links.Links.open.Goals as goal

@@ -1,6 +1,6 @@
-use Rattle.std.proofs.Common.{◌≡◌, None, sym, subst, arith}
+use Rattle.std.proofs.Common.{None, arith}
 use Rattle.std.proofs.lemmas.Result.{err_from_is_err_and}
-use Rattle.links.proofs.Rounds.{Along, along_more, along_overfull, Ahead, ahead_more, Rules, no_rules, one_rule}
+use Rattle.links.proofs.Rounds.{Along, along_more, along_overfull, Ahead, ahead_more, no_rules, one_rule}
 use Rattle.links.proofs.links.Links.round.Goals as goal
 
 pub loop-rule-init : goal.loop-rule-init

@@ -1,4 +1,4 @@
-use Rattle.std.proofs.Common.{◌≡◌, ℕ, ◌<◌, ◌≤◌, Some, sym, subst, arith}
+use Rattle.std.proofs.Common.{◌<◌, ◌≤◌, Some, subst}
 use Rattle.links.proofs.Rounds.{Along}
 use Rattle.links.proofs.Calls.{too_long, no_terminal, no_step, one_more, too_many}
 use Rattle.links.proofs.links.Links.take.Goals as goal

@@ -1,4 +1,4 @@
-use Rattle.std.proofs.Common.{◌≡◌, ℕ, ◌+◌, ◌<◌, ◌≤◌, length, refl, ◌∙◌, arith, length-set}
+use Rattle.std.proofs.Common.{◌+◌, ◌<◌, length, refl, ◌∙◌, arith, length-set}
 use Rattle.links.proofs.Changes.{begin_within, begin_under, begin_over}
 use Rattle.links.proofs.table.Table.begin.Goals as goal
 
@@ -6,19 +6,15 @@ pub invariant_of-self : goal.invariant_of-self
 invariant_of-self c =
     let t = c.args.self.now in
     let p = t.place + 1 in
-    let slot : p < length t.starts = omega (arith, t.slots, c.requires) in (
-      t.room,
-      (
-        length-set t.starts p t.count ∙ t.slots,
-        (
-          t.few,
-          (
-            t.small,
-            (
-              t.falls,
-              ((λ k lt. omega (arith, t.high k lt)), (begin_within t p refl slot, (begin_under t p refl slot, (begin_over t p refl slot, tt)))),
-            ),
-          ),
-        ),
-      ),
-    )
+    let slot : p < length t.starts = omega (arith, t.slots, c.requires) in
+    record {
+      room = t.room;
+      slots = length-set t.starts p t.count ∙ t.slots;
+      few = t.few;
+      small = t.small;
+      falls = t.falls;
+      high = λ k lt. omega (arith, t.high k lt);
+      within = begin_within t p refl slot;
+      under = begin_under t p refl slot;
+      over = begin_over t p refl slot;
+    }

@@ -4,19 +4,15 @@ use Rattle.links.proofs.table.Table.clear.Goals as goal
 
 pub invariant_of-self : goal.invariant_of-self
 invariant_of-self c =
-    let t = c.args.self.now in (
-      t.room,
-      (
-        t.slots,
-        (
-          omega arith,
-          (
-            (λ k lt. absurd (omega arith)),
-            (
-              (λ k lt. absurd (omega arith)),
-              ((λ k lt. absurd (omega arith)), (no_start t, ((λ i k le lt. t.under i k (omega arith) lt), ((λ i k x. absurd (omega (arith, x.2))), tt)))),
-            ),
-          ),
-        ),
-      ),
-    )
+    let t = c.args.self.now in
+    record {
+      room = t.room;
+      slots = t.slots;
+      few = omega arith;
+      small = λ k lt. absurd (omega arith);
+      falls = λ k lt. absurd (omega arith);
+      high = λ k lt. absurd (omega arith);
+      within = no_start t;
+      under = λ i k le lt. t.under i k (omega arith) lt;
+      over = λ i k x. absurd (omega (arith, x.2));
+    }

@@ -1,4 +1,4 @@
-use Rattle.std.proofs.Common.{◌≡◌, ℕ, ◌+◌, ◌<◌, ◌≤◌, length, sym, refl, ap, ◌∙◌, subst, arith, length-set, rules}
+use Rattle.std.proofs.Common.{◌<◌, ◌≤◌, length, refl, ◌∙◌, arith, length-set, rules}
 use Rattle.std.proofs.lemmas.List.{take_more_set}
 use Rattle.link_growth.specs.declared.Link.{Link}
 use Rattle.link_growth.specs.Entries.{lnk, Small}
@@ -13,25 +13,18 @@ invariant_of-self c =
     let l = c.args.link in
     let room : t.count < length t.links = omega (arith, c.if-n-limit.false, c.requires.bound, t.room) in
     let blank = lnk 0 0 0 0 in
-    let tiny : Small l = search rules in (
-      length-set t.links t.count l ∙ t.room,
-      (
-        t.slots,
-        (
-          omega (arith, c.if-n-limit.false, c.requires.bound),
-          (
-            below_set Small blank t.links t.count l room t.small tiny,
-            (
-              below_set (λ (v : Link). v.below_place ≤ v.place) blank t.links t.count l room t.falls (omega (arith, c.requires.here, c.requires.falls)),
-              (
-                below_set (λ (v : Link). v.place ≤ t.place) blank t.links t.count l room t.high (omega (arith, c.requires.here)),
-                ((λ i le. omega (arith, t.within i le)), (add_under t l room c.requires.here, (add_over t l room c.requires.here, tt))),
-              ),
-            ),
-          ),
-        ),
-      ),
-    )
+    let tiny : Small l = search rules in
+    record {
+      room = length-set t.links t.count l ∙ t.room;
+      slots = t.slots;
+      few = omega (arith, c.if-n-limit.false, c.requires.bound);
+      small = below_set Small blank t.links t.count l room t.small tiny;
+      falls = below_set (λ (v : Link). v.below_place ≤ v.place) blank t.links t.count l room t.falls (omega (arith, c.requires.here, c.requires.falls));
+      high = below_set (λ (v : Link). v.place ≤ t.place) blank t.links t.count l room t.high (omega (arith, c.requires.here));
+      within = λ i le. omega (arith, t.within i le);
+      under = add_under t l room c.requires.here;
+      over = add_over t l room c.requires.here;
+    }
 
 pub returns : goal.returns
 returns c =

@@ -1,4 +1,4 @@
-use Rattle.std.proofs.Common.{◌≡◌, sym, ◌∙◌}
+use Rattle.std.proofs.Common.{sym, ◌∙◌}
 use Rattle.links.specs.Tables.{somewhere}
 use Rattle.links.proofs.Contents.{both}
 use Rattle.links.proofs.table.Table.put_new.Goals as goal

@@ -1,4 +1,4 @@
-use Rattle.std.proofs.Common.{◌≡◌, Some, sym, subst}
+use Rattle.std.proofs.Common.{Some}
 use Rattle.links.proofs.Contents.{both}
 use Rattle.links.proofs.Rounds.{Along, along_more, along_overfull}
 use Rattle.links.proofs.Keeps.{all_stepped}

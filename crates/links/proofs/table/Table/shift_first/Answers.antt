@@ -1,7 +1,7 @@
 use Rattle.std.proofs.Common.{◌≡◌, ℕ, Some, sym, ap, ◌∙◌, subst}
 use Rattle.link_growth.specs.Entries.{Has}
 use Rattle.link_growth.specs.Growth.{Makes, same}
-use Rattle.links.specs.Tables.{content, Placed, Turned}
+use Rattle.links.specs.Tables.{content}
 use Rattle.links.proofs.Contents.{kept_same, placed_grown, placed_has, turned_grown, turned_overfull, either, both}
 use Rattle.links.proofs.Keeps.{first_makes}
 use Rattle.links.proofs.table.Table.shift_first.Goals as goal

@@ -1,8 +1,8 @@
-use Rattle.std.proofs.Common.{◌≡◌, ◌<◌, ◌≤◌, Some, sym, subst, arith}
+use Rattle.std.proofs.Common.{Some}
 use Rattle.std.proofs.lemmas.Result.{err_from_is_err_and}
 use Rattle.links.proofs.Contents.{turned_grown}
 use Rattle.links.proofs.Rounds.{Along, along_more}
-use Rattle.links.proofs.Keeps.{Shifting, no_shifts, shifting_more, shifting_full, shifting_all}
+use Rattle.links.proofs.Keeps.{no_shifts, shifting_more, shifting_full, shifting_all}
 use Rattle.links.proofs.table.Table.shift_links.Goals as goal
 
 pub loop-k-init : goal.loop-k-init

@@ -1,6 +1,3 @@
-use Rattle.std.proofs.Common.{◌≡◌, ◌<◌, ◌≤◌, ap, ◌∙◌, ⊎_elim, arith}
-use Rattle.std.proofs.lemmas.Bool.{cases_lt}
-use Rattle.link_growth.specs.declared.Link.{Link}
 use Rattle.links.proofs.Contents.{none_stays}
 use Rattle.links.proofs.table.Table.stays.Goals as goal
 
