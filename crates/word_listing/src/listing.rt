@@ -35,7 +35,7 @@ fn joined(mut text: String, line: &str) -> Result<String, AllocError>
 
 /// All words that are coming from a feed, a line for each, and a last line for the end or the refusal.
 pub fn list_words<F: WordFeed>(heap: Global, feed: &mut F) -> Result<String, AllocError>
-    ensures { IfOk result (λ text. string_bytes text ≡ word_lines (coming feed.old)) }
+    ensures { IfOk result (λ text. string_bytes text ≡ word_lines (F.coming feed.old)) }
 {
     let mut text = String::new(heap);
     loop {

@@ -13,8 +13,8 @@ pub loop-next-preserved : goal.loop-next-preserved
 loop-next-preserved g c =
     let coming = g.F.WordFeed.coming in
     let told = subst (λ x. Handed (coming c.loop-next.feed) (Ok x) (coming c.next_word.new.self)) c.in-Some.is c.in-Ok.ensures in
-    ap (λ x. x ++ word_lines (coming c.next_word.new.self)) c.in_ok-text.ensures
-    ∙ lines_word (string_bytes c.loop-next.text) (coming c.loop-next.feed) (coming c.next_word.new.self) (coming c.args.feed.now) c.loop-next.invariant c.in-Some.word c.as_str.result.now told (c.as_str.ensures.value ∙ c.in_ok-line.ensures)
+    ap (λ x. x ++ word_lines (coming c.next_word.new.self)) c.in_ok-text-in-Ok.ensures
+    ∙ lines_word (string_bytes c.loop-next.text) (coming c.loop-next.feed) (coming c.next_word.new.self) (coming c.args.feed.now) c.loop-next.invariant c.in-Some.word c.as_str.result.now told (c.as_str.ensures.value ∙ c.in_ok-line-in-Ok.ensures)
 
 pub loop-next-smaller : goal.loop-next-smaller
 loop-next-smaller g c =
@@ -39,5 +39,5 @@ returns-in-Err g c =
     (λ text p.
     p
     ∙ lines_fault (string_bytes c.loop-next.text) (coming c.loop-next.feed) (coming c.next_word.new.self) (coming c.args.feed.now) c.loop-next.invariant c.in-Err.fault c.as_str-in-Err.result.now c.in-Err.ensures
-    (c.as_str-in-Err.ensures.value ∙ c.in_ok-line-2.ensures ∙ ap (λ r. refusal_line r ++ codes "\n") c.refusal.ensures))
+    (c.as_str-in-Err.ensures.value ∙ c.in_ok-line-in-Err.ensures ∙ ap (λ r. refusal_line r ++ codes "\n") c.refusal.ensures))
     c.joined-in-Err.ensures
