@@ -27,4 +27,4 @@ returns-clause-writes g c = λ plain ok.
     (item_text s x.rule x.dot) c.write.new.self
     (text_is s x.rule x.dot (called c.of-left.result) c.min-mark.result c.from-length.result
     (c.of-left.ensures ∙ ap (symbol_name s) c.left.ensures) (c.min-mark.ensures ∙ ap (min x.dot) length_is) length_is)
-    (c.write.ensures.shows plain ok)
+    (c.write.ensures.writes plain ok)

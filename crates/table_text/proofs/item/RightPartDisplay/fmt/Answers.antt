@@ -23,7 +23,7 @@ loop-place-preserved g c = (
       (omega arith) before
       (has_written_of_eq g.W.Write.write_str_gives c.loop-place.f (codes " " ++ called c.of-symbol.result) (right_piece s x.rule c.loop-place.place)
       c.write.new.self (ap (λ w. codes " " ++ w) (c.of-symbol.ensures ∙ ap (symbol_name s) c.right.ensures))
-      (c.in_ok-write.ensures.shows before.plain (refl {a = true}))),
+      (c.in_ok-write.ensures.writes before.plain (refl {a = true}))),
 )
 
 pub returns-clause-writes : goal.returns-clause-writes

@@ -16,7 +16,7 @@ loop-rule-preserved g c = λ plain.
     let x = c.args.self.now in
     let before = c.loop-rule.invariant plain in
     each_more g.W.Write.write_str_gives (rule_items (sheet x.grammar.now) (items x.row.now)) 0 c.args.f.now c.loop-rule.f
-    c.write.new.self c.loop-rule.rule (omega arith) before (c.in_ok-write.ensures.shows before.plain (refl {a = true}))
+    c.write.new.self c.loop-rule.rule (omega arith) before (c.in_ok-write.ensures.writes before.plain (refl {a = true}))
 
 pub returns-clause-writes : goal.returns-clause-writes
 returns-clause-writes g c = λ plain ok.

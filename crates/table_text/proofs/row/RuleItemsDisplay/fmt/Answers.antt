@@ -16,7 +16,7 @@ loop-dot-preserved g c = λ plain.
     let x = c.args.self.now in
     let before = c.loop-dot.invariant plain in
     each_more g.W.Write.write_str_gives (item_line (sheet x.grammar.now) (items x.row.now) x.rule) 0 c.args.f.now c.loop-dot.f
-    c.write.new.self c.loop-dot.dot (omega arith) before (c.in_ok-write.ensures.shows before.plain (refl {a = true}))
+    c.write.new.self c.loop-dot.dot (omega arith) before (c.in_ok-write.ensures.writes before.plain (refl {a = true}))
 
 pub returns-clause-writes : goal.returns-clause-writes
 returns-clause-writes g c = λ plain ok.

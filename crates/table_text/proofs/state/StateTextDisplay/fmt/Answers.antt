@@ -15,7 +15,7 @@ returns-in-Some-clause-writes g c = λ plain ok.
     let src = source x.table.now in
     let at = c.in-Some.ensures in
     has_written_of_eq g.W.Write.write_str_gives c.args.f.now (state_by s src x.state (items c.in-Some.row)) (state_part s src x.state) c.write.new.self
-    (state_is s src x.state (items c.in-Some.row) at.0 at.1) (c.write.ensures.shows plain ok)
+    (state_is s src x.state (items c.in-Some.row) at.0 at.1) (c.write.ensures.writes plain ok)
 
 pub returns-in-None-clause-writes : goal.returns-in-None-clause-writes
 returns-in-None-clause-writes g c = λ plain ok.

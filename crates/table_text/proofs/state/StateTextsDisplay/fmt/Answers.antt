@@ -15,7 +15,7 @@ loop-state-preserved g c = λ plain.
     let x = c.args.self.now in
     let before = c.loop-state.invariant plain in
     each_more g.W.Write.write_str_gives (state_part (sheet x.grammar.now) (source x.table.now)) 0 c.args.f.now c.loop-state.f
-    c.write.new.self c.loop-state.state (omega arith) before (c.in_ok-write.ensures.shows before.plain (refl {a = true}))
+    c.write.new.self c.loop-state.state (omega arith) before (c.in_ok-write.ensures.writes before.plain (refl {a = true}))
 
 pub returns-clause-writes : goal.returns-clause-writes
 returns-clause-writes g c = λ plain ok.

@@ -22,7 +22,7 @@ loop-symbol-preserved g c = λ plain.
     c.write.new.self X (omega arith) before
     (has_written_of_eq g.W.Write.write_str_gives c.loop-symbol.f (step_line s c.next-target.result X) (step_line s ((source x.table.now).next x.state X) X)
     c.write.new.self (ap (λ o. step_line s o X) c.next-target.ensures)
-    (c.in_ok-write.ensures.shows before.plain (refl {a = true})))
+    (c.in_ok-write.ensures.writes before.plain (refl {a = true})))
 
 pub returns-clause-writes : goal.returns-clause-writes
 returns-clause-writes g c = λ plain ok.
