@@ -84,7 +84,7 @@ gathered_same ns bs p q = λ i.
     and_lists (counted (length (p i)) (length (q i))) (filled (p i) (length ns) blank_node) (filled (q i) (length bs) blank_alternative)
 
 -- There are no more records than a list of all of them has, and these have room.
-not_fewer : {X P : Type 0} {R : X → X → Ordering → Type 0} (o : IsTotalOrder R) {Q : X → Type 0} {xs : List X} {n : ℕ}
+not_fewer : {X P : Type 0} {R : X → X → Ordering} (o : IsTotalOrder R) {Q : X → Type 0} {xs : List X} {n : ℕ}
     → Lists o Q xs → length xs ≤ n → MoreThan Q n → P
 not_fewer o a h m = absurd (omega (arith, listed_most o a m.some m.apart m.each, m.many))
 

@@ -1,6 +1,6 @@
 -- Each answer of a history is right, so that the law holds of it.
 use Rattle.std.proofs.Common.{◌≡◌, ℕ, ◌<◌, ◌≤◌, ◌↔◌, List, [], ◌∷◌, ◌++◌, length, Some, None, Option, sym, refl, ap, ◌∙◌, subst, append_assoc, append-nil, arith, length-append}
-use lib.ListN.{length-map}
+use Rattle.std.proofs.lemmas.List.{length-map}
 use Rattle.grammar.specs.declared.refusal.Refusal.{Refusal}
 use Rattle.parsing.specs.Grammar.{Grammar}
 use Rattle.parsing.specs.Items.{Source}

@@ -1,4 +1,4 @@
--- A read_through, turn by turn, as a loop over a feed makes it.
+-- A read-through, turn by turn, as a loop over a feed makes it.
 use Rattle.std.proofs.Common.{◌≡◌, ℕ, Bool, List, [], ◌∷◌, ◌++◌, Some, None, Ok, Err, sym, refl, ap, ◌∙◌, subst}
 use Rattle.grammar.specs.declared.refusal.Refusal.{Refusal}
 use Rattle.parsing.specs.Items.{Source}
@@ -12,7 +12,7 @@ use Rattle.histories.specs.Calls.{Reply, done, judged, refused, word_refused, pl
 use Rattle.histories.specs.Meetings.{Meets}
 use Rattle.histories.specs.Doings.{Passes, at_end, at_fault, word_no, word_yes, Does, take_no, take_yes, judge_open, through_open}
 
--- The words vs were kept and b was coming as the read_through began; ws are kept and c is coming now. What follows from here follows from there.
+-- The words vs were kept and b was coming as the read-through began; ws are kept and c is coming now. What follows from here follows from there.
 pub record On (src : Source) (n : ℕ) (vs : List ℕ) (b : Coming) (ws : List ℕ) (c : Coming) : Type 0 where
   pub fault : c.fault ≡ b.fault
   pub onward : (a : Reply) (us : List ℕ) (ds : List Word) → Passes src n b.fault ws c.words a us ds → Passes src n b.fault vs b.words a us ds

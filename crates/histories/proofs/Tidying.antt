@@ -1,6 +1,6 @@
 -- What occurs in a derivation lies within the words, and is never the goal or its rule.
 use Rattle.std.proofs.Common.{◌≡◌, ℕ, zero, suc, ◌+◌, ◌-◌, ◌≤◌, List, length, get_or, ap, ◌∙◌, subst, arith, length-append}
-use lib.ListN.{length-replicate}
+use Rattle.std.proofs.lemmas.List.{length-replicate}
 use Rattle.parsing.specs.Grammar.{Grammar, lhs, rhs, WellFormed}
 use Rattle.parsing.specs.Forest.{Alternative as Cut, Reached, top, child}
 use Rattle.parsing.proofs.Derivations.{derivation_forward}

@@ -62,7 +62,7 @@ pub data Does (src : Source) : Held → Call → Answer → Held → Type 0 wher
       → Does src (opened n ws) (take_word t) (plain (refused r)) (opened n ws)
   take_yes : {n t : ℕ} {ws : List ℕ} → Meets src n ws t None
       → Does src (opened n ws) (take_word t) (plain done) (opened n (ws ++ t ∷ []))
-  -- While closed, a read_through asks nothing of its feed.
+  -- While closed, a read-through asks nothing of its feed.
   through_closed : {c : Coming} → Does src closed (read_through c) (and_feed (refused (of_reading 40 0 0)) c) closed
   through_open : {n : ℕ} {ws vs : List ℕ} {c : Coming} {a : Reply} {ds : List Word} → Passes src n c.fault ws c.words a vs ds
       → Does src (opened n ws) (read_through c) (and_feed a (rest_of c ds)) (opened n vs)

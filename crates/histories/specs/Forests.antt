@@ -28,7 +28,7 @@ pub record AlternativeOf (g : Grammar) (ws : List ℕ) (z : Alternative) : Type 
   pub uses : Uses derivation z.rule places
   pub cuts_are : z.cuts ≡ padded places
 
-pub record Lists {X : Type 0} {R : X → X → Ordering → Type 0} (o : IsTotalOrder R) (P : X → Type 0) (xs : List X) : Type 0 where
+pub record Lists {X : Type 0} {R : X → X → Ordering} (o : IsTotalOrder R) (P : X → Type 0) (xs : List X) : Type 0 where
   pub order : Climbs o xs
   pub each : (z : X) → P z → Has xs z
   pub only : (z : X) → Has xs z → P z

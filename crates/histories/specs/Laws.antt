@@ -1,9 +1,9 @@
 -- The law on a whole history of one reading, in the words of the subject: sentences, derivations and kept words.
 --
 -- The kept words follow from the source and the calls' arguments alone, and
---   (a) while the reading is open with fewer than 254 words kept, a terminal, by take or in a read_through, is refused as 45 exactly
+--   (a) while the reading is open with fewer than 254 words kept, a terminal, by take or in a read-through, is refused as 45 exactly
 --       when no sentence begins with the words then kept followed by it;
---   (b) once it is open, judge answers yes exactly when the kept words are a sentence; a read_through that is not refused has added
+--   (b) once it is open, judge answers yes exactly when the kept words are a sentence; a read-through that is not refused has added
 --       every word that its feed held, in order, and then answers likewise;
 --   (c) while it is open and the kept words are a sentence, a gather into lists with room for them all writes each node and each
 --       alternative that occurs in some derivation of these words, once each, in order, and no other, and answers both counts.
@@ -57,12 +57,12 @@ pub record ReadRight (g : Grammar) (ws : List ℕ) (c : Coming) (a : Reply) (vs 
   pub rest : List Word
   pub held : c.words ≡ added ++ rest
   pub kept : vs ≡ ws ++ terminals_of added
-  -- (a) in a read_through, of each word that it came to: of those before it, all were added.
+  -- (a) in a read-through, of each word that it came to: of those before it, all were added.
   pub each : (before : List Word) (w : Word) (behind : List Word) → c.words ≡ before ++ w ∷ behind → length before ≤ length added
       → length (ws ++ terminals_of before) < 254 → w.terminal < g.terminals
       → (a ≡ word_refused (of_reading 45 (length (ws ++ terminals_of before)) w.terminal) w.from w.to)
       ↔ NoneBegins g ((ws ++ terminals_of before) ++ w.terminal ∷ [])
-  -- (b) of a read_through that is not refused.
+  -- (b) of a read-through that is not refused.
   pub whole : (Refuses a → ⊥) → (rest ≡ []) × Verdict g vs a
 
 pub record ThroughRight (g : Grammar) (n : ℕ) (ws : List ℕ) (c : Coming) (a : Answer) (k : Held) : Type 0 where
