@@ -1,7 +1,7 @@
 //! What is answered to a sheet.
 use grammar::{Grammar, GrammarFault, Layer, Refusal, rewrite};
+use std::fmt;
 use std::process::Abort;
-use std::test::Fail;
 
 /// The answer to a sheet.
 #[derive(Clone, Copy, PartialEq, Eq, Debug)]
@@ -90,8 +90,7 @@ pub fn answer_in(sheet: &[u8], length: usize) -> Answer {
     }
 }
 
-/// The sheet has this answer in a room that suffices.
-pub fn check_answer(rt: &impl Abort, sheet: &[u8], answer: Answer) -> Result<(), Fail> {
-    assert_eq!(rt; answer_in(sheet, 1200), answer);
-    Ok(())
+/// The sheet has this answer in a room that suffices; a failure names the case.
+pub fn check_answer(rt: &impl Abort, sheet: &[u8], answer: Answer, what: impl fmt::Display + Drop) {
+    assert_eq!(rt; answer_in(sheet, 1200), answer, "{what}");
 }

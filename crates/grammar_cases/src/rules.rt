@@ -1,7 +1,6 @@
 //! The rules: their form, refused with 13, and the place of the goal, refused with 14.
 use crate::answers::Answer::*;
 use crate::tables::{Changed, check_changed};
-use std::test::Fail;
 
 static FORMS: [Changed; 25] = [
     ("left the amount", &[(21, 0)], Refused(13, 1)),
@@ -73,11 +72,11 @@ static GOALS: [Changed; 18] = [
 ];
 
 #[test]
-fn rules_have_their_form(rt: HostRuntime) -> Result<(), Fail> {
-    check_changed(&rt, &FORMS)
+fn rules_have_their_form(rt: HostRuntime) {
+    check_changed(&rt, &FORMS);
 }
 
 #[test]
-fn the_goal_stands_in_rule_0_alone(rt: HostRuntime) -> Result<(), Fail> {
-    check_changed(&rt, &GOALS)
+fn the_goal_stands_in_rule_0_alone(rt: HostRuntime) {
+    check_changed(&rt, &GOALS);
 }

@@ -2,7 +2,6 @@
 use crate::answers::{Answer, check_answer};
 use crate::sheets::{Draft, P};
 use std::process::Abort;
-use std::test::Fail;
 
 /// The sheet is P with other bytes at some offsets.
 pub type Changed = (&'static str, &'static [(usize, u8)], Answer);
@@ -50,30 +49,27 @@ pub fn spelled(terminals: u8, spellings: &[&str]) -> Draft {
 }
 
 /// Each of these sheets has its answer.
-pub fn check_changed(rt: &impl Abort, cases: &[Changed]) -> Result<(), Fail> {
+pub fn check_changed(rt: &impl Abort, cases: &[Changed]) {
     for (what, changes, answer) in cases {
-        check_answer(rt, &changed(changes), *answer).note(what)?;
+        check_answer(rt, &changed(changes), *answer, *what);
     }
-    Ok(())
 }
 
 /// Each of these sheets has its answer.
-pub fn check_ruled(rt: &impl Abort, cases: &[Ruled]) -> Result<(), Fail> {
+pub fn check_ruled(rt: &impl Abort, cases: &[Ruled]) {
     for (what, nonterminals, rules, answer) in cases {
-        check_answer(rt, ruled(rules).sheet(3, *nonterminals), *answer).note(what)?;
+        check_answer(rt, ruled(rules).sheet(3, *nonterminals), *answer, *what);
     }
-    Ok(())
 }
 
 /// Each of these sheets has its answer.
-pub fn check_spelled(rt: &impl Abort, cases: &[Spelled]) -> Result<(), Fail> {
+pub fn check_spelled(rt: &impl Abort, cases: &[Spelled]) {
     for (what, terminals, spellings, answer) in cases {
         check_answer(
             rt,
             spelled(*terminals, spellings).sheet(*terminals, 2),
             *answer,
-        )
-        .note(what)?;
+            *what,
+        );
     }
-    Ok(())
 }
