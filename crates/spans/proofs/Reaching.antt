@@ -1,9 +1,8 @@
 -- What is met by asking which parts fit is what is reached.
-use Rattle.std.proofs.Common.{◌≡◌, ℕ, zero, suc, ◌+◌, ◌-◌, ◌<◌, ◌≤◌, Bool, true, ◌⊎◌, ◌↔◌, List, [], ◌∷◌, length, get_or, Some, sym, refl, ap, ◌∙◌, subst, ap₂, subst₂, inl, inr, add-one, arith}
-use mathlib.Core.Path.{subst₃}
+use Rattle.std.proofs.Common.{◌≡◌, ℕ, zero, suc, ◌+◌, ◌-◌, ◌<◌, ◌≤◌, Bool, true, ◌⊎◌, List, length, get_or, sym, refl, ◌∙◌, inl, inr, add-one, arith}
 use Rattle.std.proofs.lemmas.Bool.{cases_lt}
 use Rattle.parsing.specs.Grammar.{Grammar, rule_count, lhs, rhs, start, Nonterminal, Sentence, WellFormed}
-use Rattle.parsing.specs.Grammar.{Derivation, word, node, Parts, end, part}
+use Rattle.parsing.specs.Grammar.{Derivation, word, node}
 use Rattle.parsing.specs.Items.{Next, Source, In, Lawful}
 use Rattle.parsing.specs.Links.{Linked, Live, bottom, linked}
 use Rattle.parsing.specs.Forest.{Alternative, Reached, top, child, ReachedAlternative}
@@ -11,9 +10,9 @@ use Rattle.parsing.proofs.States.{step_in, start_next, initial_in, entering}
 use Rattle.parsing.proofs.Soundness.{sound, live_state, below as lower}
 use Rattle.parsing.proofs.Completeness.{complete, predicts}
 use Rattle.parsing.proofs.Theorems.{forest}
-use Rattle.spans.specs.Spans.{Spans, IsWord, Answers, Tells, Path, stay, step, part_fits, Fitting, Placed, Met, crown, below, MetAlternative}
+use Rattle.spans.specs.Spans.{Spans, IsWord, Tells, Path, step, part_fits, Fitting, Placed, Met, crown, below, MetAlternative}
 use Rattle.spans.specs.Statements.{SpansTell, SpansJudge, MetForest}
-use Rattle.spans.proofs.Paths.{join, one, places, places_count, places_from, places_to, places_fit, join_places, path_of}
+use Rattle.spans.proofs.Paths.{join, places, places_count, places_from, places_to, places_fit, join_places, path_of}
 
 -- A symbol of the grammar is a terminal or a nonterminal.
 either : (g : Grammar) (X : ℕ) → X < g.terminals + g.nonterminals → (X < g.terminals) ⊎ Nonterminal g X

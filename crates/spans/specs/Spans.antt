@@ -9,7 +9,7 @@
 --   Placed g fits r i j p a b     part p of rule r stands from a to b where all parts of r fit from i to j
 --   Met g fits n X i j            the node (X, i, j) is met from the top
 --   MetAlternative g fits n r cs  the alternative (r, cs) is met
-use Rattle.std.specs.Prelude.{◌≡◌, ℕ, suc, ◌+◌, ◌<◌, ◌≤◌, Bool, true, ◌↔◌, List, length, Some, slice_index, slice_index_or}
+use Rattle.std.specs.Prelude.{◌≡◌, ℕ, suc, ◌+◌, ◌<◌, Bool, true, ◌↔◌, List, length, Some, slice_index, slice_index_or}
 use Rattle.parsing.specs.Grammar.{Grammar, rule_count, lhs, rhs, start, Nonterminal, Derivation}
 use Rattle.parsing.specs.Items.{Source}
 use Rattle.parsing.specs.Forest.{Reached}
