@@ -1,5 +1,5 @@
 -- Nodes between marked places.
-use Rattle.std.proofs.Common.{◌≡◌, ℕ, ◌+◌, ◌-◌, ◌<◌, ◌≤◌, Bool, true, false, ◌≢◌, ◌⊎◌, List, [], ◌∷◌, sym, refl, ap, ◌∙◌, subst, ap₂, subst₂, inl, inr, arith}
+use Rattle.std.proofs.Common.{◌≡◌, ℕ, ◌≤◌, Bool, true, List, sym, refl, subst, arith}
 use Rattle.records.specs.declared.node.Node.{Node}
 use Rattle.parts.specs.Marks.{Marked}
 use Rattle.parts.specs.Parts.{From, Between}

@@ -1,8 +1,8 @@
 -- The parts of a node, wherever they are placed.
-use Rattle.std.proofs.Common.{◌≡◌, ℕ, ◌+◌, ◌<◌, ◌≤◌, Bool, true, ◌⊎◌, List, [], length, get_or, sym, refl, ap, ◌∙◌, subst, inl, inr, arith}
+use Rattle.std.proofs.Common.{◌≡◌, ℕ, ◌+◌, ◌<◌, ◌≤◌, Bool, true, ◌⊎◌, List, [], length, get_or, sym, ap, ◌∙◌, subst, inl, inr, arith}
 use Rattle.std.proofs.lemmas.Bool.{cases_lt}
 use Rattle.parsing.specs.Grammar.{Grammar, lhs, rhs}
-use Rattle.spans.specs.Spans.{Path, step, part_fits, Placed}
+use Rattle.spans.specs.Spans.{step, part_fits, Placed}
 use Rattle.register.specs.declared.register.Register.{Register}
 use Rattle.register.specs.Registers.{Grew, Lacks}
 use Rattle.register.proofs.Growing.{grew_none, grew_then, grew_as, lacks_then}

@@ -1,10 +1,10 @@
 -- How rows of marks grow, and what they mark.
-use Rattle.std.proofs.Common.{◌≡◌, ℕ, zero, suc, ◌+◌, ◌-◌, ◌<◌, ◌≤◌, Bool, true, false, ◌≢◌, ◌⊎◌, List, [], ◌∷◌, length, get_or, set, replicate, sym, refl, ap, ◌∙◌, subst, subst₂, inl, inr, arith, length-set, get_or-set_other, get_or-set_same}
+use Rattle.std.proofs.Common.{◌≡◌, ℕ, zero, suc, ◌+◌, ◌<◌, ◌≤◌, Bool, true, false, ◌≢◌, ◌⊎◌, List, [], length, get_or, set, replicate, sym, refl, ap, ◌∙◌, subst, subst₂, inl, inr, arith, length-set, get_or-set_other, get_or-set_same}
 use Rattle.std.proofs.lemmas.List.{get_or-replicate}
 use Rattle.std.proofs.lemmas.Bool.{cases_order, cases_lt, false≢true}
 use Rattle.spans.specs.Spans.{Path, stay, step}
 use Rattle.spans.proofs.Paths.{path_rises, join, one}
-use Rattle.parts.specs.Marks.{Marked, Added, Onward, Begins, Inward, Ends, Completes, Leads}
+use Rattle.parts.specs.Marks.{Marked, Added, Begins, Ends, Completes, Leads}
 
 pub unmarked : (n k : ℕ) → Marked (replicate n false) k → ⊥
 unmarked zero k h = false≢true h

@@ -7,7 +7,7 @@
 --   Ends h i j before next row  the row marks those of the places of `next` up to j to which a step leads inward
 --   Completes f m i j rows k    each row p from k to m marks the places from i on from which the parts from p up to m fit to j
 --   Leads f m i j p row         the row marks the places up to which the parts before p fit from i, if those behind fit from there to j
-use Rattle.std.specs.Prelude.{◌≡◌, ℕ, ◌<◌, ◌≤◌, Bool, true, false, ◌⊎◌, List, [], length, slice_index_or}
+use Rattle.std.specs.Prelude.{◌≡◌, ℕ, ◌≤◌, Bool, true, false, ◌⊎◌, List, [], length, slice_index_or}
 use Rattle.spans.specs.Spans.{Path}
 
 abbrev pub Marked : List Bool → ℕ → Type 0

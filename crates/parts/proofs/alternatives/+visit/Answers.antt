@@ -1,20 +1,20 @@
-use Rattle.std.proofs.Common.{◌≡◌, ℕ, ◌+◌, ◌<◌, ◌≤◌, true, length, get_or, set, sym, ◌∙◌, subst, true≢false, arith}
+use Rattle.std.proofs.Common.{◌≡◌, ◌+◌, ◌<◌, true, length, get_or, set, sym, ◌∙◌, subst, true≢false, arith}
 use Rattle.std.proofs.lemmas.Result.{err_from_is_err_and}
 use Rattle.parsing.specs.Grammar.{rhs}
 use Rattle.register.specs.declared.register.Register.{Register}
 use Rattle.register.specs.Registers.{Grew}
-use Rattle.register.proofs.Growing.{Upto, filled_short, grew_as, lacks_as, grew_put, lacks_put, keyed_none, keyed_taken, keyed_passed, keyed_short, keyed_all}
+use Rattle.register.proofs.Growing.{Upto, filled_short, grew_as, lacks_as, grew_put, lacks_put, keyed_taken, keyed_passed, keyed_short}
 use Rattle.records.specs.declared.alternative.Alternative.{Alternative}
 use Rattle.records.specs.Orders.{by_alternative}
 use Rattle.records.proofs.Faith.{alternative_faithful}
 use Rattle.parts.specs.Parts.{Extends}
 use Rattle.parts.proofs.Grammars.{length_is, right_is}
-use Rattle.parts.proofs.Visits.{ended, end_only, unused_longer, shorter, longer, no_next, next_low, next_high}
+use Rattle.parts.proofs.Visits.{ended, end_only, shorter, longer, no_next}
 use Rattle.parts.proofs.alternatives.+visit.Goals as goal
-use Rattle.parts.proofs.alternatives.+visit.Goals.{then-rows-p+then-fits+in_ok_visit, else-rows-p, else-rows-p-via-then-rows-p+else-fits, else-rows-p-via-else-rows-p}
+use Rattle.parts.proofs.alternatives.+visit.Goals.{then-rows-p+then-fits+in_ok-visit, else-rows-p, else-rows-p-via-then-rows-p+else-fits, else-rows-p-via-else-rows-p}
 
-pub returns-in-err--new : goal.returns-in-err--new
-returns-in-err--new g t c =
+pub returns-in_err-_new : goal.returns-in_err-_new
+returns-in_err-_new g t c =
     let gr = (g.S.StateSource.meaning c.args.source.now).grammar in
     let says = g.F.Fits.says c.args.spans.now in
     let q : c.args.p ≡ length (rhs gr c.args.rule) = c.if-p-length.true ∙ c.length.ensures ∙ length_is gr c.args.rule c.requires.rule in
@@ -24,7 +24,7 @@ returns-in-err--new g t c =
     filled_short by_alternative P c.args.alternatives.now c.insert.new.self c.from_residual.result b.0 b.1
     (lacks_as by_alternative (λ z. z ≡ x) P c.args.alternatives.now c.insert.new.self
     (ended gr says c.args.rows.now c.args.rule c.args.j c.args.p c.args.cuts q c.requires.long c.requires.unused)
-    (lacks_put by_alternative c.args.alternatives.now c.insert.new.self x b.0 c.in-err--new.ensures))
+    (lacks_put by_alternative c.args.alternatives.now c.insert.new.self x b.0 c.in_err-_new.ensures))
 
 pub returns-then-p-length : goal.returns-then-p-length
 returns-then-p-length g t c =
@@ -36,7 +36,7 @@ returns-then-p-length g t c =
     grew_as by_alternative (λ z. z ≡ x) P c.args.alternatives.now c.insert.new.self
     (ended gr says c.args.rows.now c.args.rule c.args.j c.args.p c.args.cuts q c.requires.long c.requires.unused)
     (end_only gr says c.args.rows.now c.args.rule c.args.j c.args.p c.args.cuts q c.requires.long c.requires.unused)
-    (grew_put by_alternative alternative_faithful c.args.alternatives.now c.insert.new.self x c.in-ok--new.-new c.in-ok--new.ensures)
+    (grew_put by_alternative alternative_faithful c.args.alternatives.now c.insert.new.self x c.in_ok-_new._new c.in_ok-_new.ensures)
 
 pub bounds-cuts-p : goal.bounds-cuts-p
 bounds-cuts-p g t c =
@@ -110,13 +110,13 @@ loop-c-preserved g t c =
     let G : Register Alternative → Type 0 = λ alternatives.
     Grew by_alternative (Upto by_alternative S (λ (z : Alternative). get_or z.cuts (p + 1) 0) (k + 1)) c.args.alternatives.now alternatives in
     elim c.if-rows-p.branch [
-      | then-rows-p+then-fits+in_ok_visit w ↦
+      | then-rows-p+then-fits+in_ok-visit w ↦
           let h : says (get_or (rhs gr r) p 0) (get_or ks p 0) k ≡ true = subst (λ y. says y (get_or ks p 0) k ≡ true) x (sym w.fits.ensures ∙ w.if-fits.true) in
           subst G (sym w.alternatives-is)
           (keyed_taken by_alternative S (λ (z : Alternative). get_or z.cuts (p + 1) 0) Q c.args.alternatives.now c.loop-c.alternatives w.visit.new.alternatives k
           (shorter gr says rows r j p ks c.requires.long pm short k (omega arith) w.if-rows-p.true h)
           (longer gr says rows r j p ks c.requires.long pm short k)
-          c.loop-c.invariant w.in_ok_visit.ensures)
+          c.loop-c.invariant w.in_ok-visit.ensures)
       | else-rows-p w ↦ subst G (sym w.alternatives-is)
           (keyed_passed by_alternative S (λ (z : Alternative). get_or z.cuts (p + 1) 0) c.args.alternatives.now c.loop-c.alternatives k
           (no_next gr says rows r j p ks c.requires.long pm short k

@@ -1,10 +1,10 @@
-use Rattle.std.proofs.Common.{◌≡◌, ℕ, ◌≤◌, length, get_or, sym, ap, ◌∙◌, subst, arith}
+use Rattle.std.proofs.Common.{◌≡◌, length, get_or, ap, ◌∙◌}
 use Rattle.parsing.specs.Grammar.{rhs}
-use Rattle.register.proofs.Growing.{grew_none, filled_as}
+use Rattle.register.proofs.Growing.{filled_as}
 use Rattle.records.specs.Orders.{by_alternative}
 use Rattle.parts.specs.Parts.{Extends, Whole}
 use Rattle.parts.proofs.Grammars.{length_is}
-use Rattle.parts.proofs.Visits.{none_whole, extends_whole, whole_extends, first_unused}
+use Rattle.parts.proofs.Visits.{extends_whole, whole_extends}
 use Rattle.parts.proofs.alternatives.put_alternatives_by.Goals as goal
 use Rattle.parts.proofs.alternatives.put_alternatives_by.Goals.{else-length-eq0-via-then-length-eq0+else-i-j, else-length-eq0-via-else-length-eq0}
 

@@ -1,4 +1,4 @@
-use Rattle.std.proofs.Common.{◌≡◌, ℕ, ◌+◌, ◌<◌, ◌≤◌, Bool, true, List, sym, ◌∙◌, subst, true≢false, arith}
+use Rattle.std.proofs.Common.{◌+◌, Bool, List, sym, ◌∙◌, subst, true≢false, arith}
 use Rattle.parts.specs.Marks.{Added}
 use Rattle.parts.proofs.Rows.{Reach, reach_none, reach_taken, reach_passed, reach_all}
 use Rattle.parts.proofs.marks.begins.Goals as goal

@@ -1,4 +1,4 @@
-use Rattle.std.proofs.Common.{◌≡◌, ℕ, ◌+◌, ◌<◌, ◌≤◌, Bool, true, List, sym, ◌∙◌, subst, true≢false, arith}
+use Rattle.std.proofs.Common.{◌+◌, Bool, List, sym, ◌∙◌, subst, true≢false, arith}
 use Rattle.parts.specs.Marks.{Added}
 use Rattle.parts.proofs.Rows.{Reached, reached_none, reached_taken, reached_passed, reached_all}
 use Rattle.parts.proofs.marks.ends.Goals as goal

@@ -1,4 +1,4 @@
-use Rattle.std.proofs.Common.{◌≡◌, ℕ, ◌+◌, ◌<◌, ◌≤◌, Bool, true, List, length, sym, ◌∙◌, subst, true≢false, arith}
+use Rattle.std.proofs.Common.{◌≡◌, ℕ, ◌+◌, ◌≤◌, Bool, true, List, sym, ◌∙◌, subst, true≢false, arith}
 use Rattle.parts.specs.Marks.{Added}
 use Rattle.parts.proofs.Rows.{Upto, upto_none, upto_taken, upto_passed, upto_all}
 use Rattle.parts.proofs.marks.mark_begins.Goals as goal

@@ -1,4 +1,4 @@
-use Rattle.std.proofs.Common.{◌≡◌, ℕ, ◌+◌, ◌<◌, ◌≤◌, Bool, true, List, sym, ◌∙◌, subst, true≢false, arith}
+use Rattle.std.proofs.Common.{◌≡◌, ℕ, ◌+◌, ◌≤◌, Bool, true, List, sym, ◌∙◌, subst, true≢false, arith}
 use Rattle.parts.specs.Marks.{Marked, Added}
 use Rattle.parts.proofs.Rows.{Upto, upto_none, upto_taken, upto_passed, upto_all}
 use Rattle.parts.proofs.marks.mark_ends.Goals as goal

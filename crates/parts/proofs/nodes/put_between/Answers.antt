@@ -1,4 +1,4 @@
-use Rattle.std.proofs.Common.{◌≡◌, ℕ, ◌+◌, ◌≤◌, true, sym, ◌∙◌, subst, true≢false, arith}
+use Rattle.std.proofs.Common.{◌+◌, sym, ◌∙◌, subst, true≢false, arith}
 use Rattle.std.proofs.lemmas.Result.{err_from_is_err_and}
 use Rattle.register.specs.declared.register.Register.{Register}
 use Rattle.register.specs.Registers.{Grew}
@@ -9,7 +9,7 @@ use Rattle.parts.specs.Marks.{Marked}
 use Rattle.parts.specs.Parts.{From, Between}
 use Rattle.parts.proofs.Betweens.{from_between, between_from}
 use Rattle.parts.proofs.nodes.put_between.Goals as goal
-use Rattle.parts.proofs.nodes.put_between.Goals.{then-before-a+in_ok_put_from, else-before-a}
+use Rattle.parts.proofs.nodes.put_between.Goals.{then-before-a+in_ok-put_from, else-before-a}
 
 pub loop-a-init : goal.loop-a-init
 loop-a-init g c =
@@ -34,11 +34,11 @@ loop-a-preserved g c =
     let k = c.loop-a.a in
     let G : Register Node → Type 0 = λ nodes. Grew by_node (Upto by_node S (λ (z : Node). z.from) (k + 1)) c.args.nodes.now nodes in
     elim c.if-before-a.branch [
-      | then-before-a+in_ok_put_from w ↦ subst G (sym w.nodes-is)
+      | then-before-a+in_ok-put_from w ↦ subst G (sym w.nodes-is)
           (keyed_taken by_node S (λ (z : Node). z.from) (From h c.args.next.now c.args.x c.args.j k) c.args.nodes.now c.loop-a.nodes w.put_from.new.nodes k
           (from_between h c.args.x c.args.j c.args.before.now c.args.next.now c.args.i k (omega arith) (omega arith) w.if-before-a.true)
           (between_from h c.args.x c.args.j c.args.before.now c.args.next.now c.args.i k)
-          c.loop-a.invariant w.in_ok_put_from.ensures)
+          c.loop-a.invariant w.in_ok-put_from.ensures)
       | else-before-a w ↦ subst G (sym w.nodes-is)
           (keyed_passed by_node S (λ (z : Node). z.from) c.args.nodes.now c.loop-a.nodes k
           (λ z q e. true≢false (sym (subst (λ t. Marked c.args.before.now t) e q.begun) ∙ w.if-before-a.false))

@@ -1,4 +1,4 @@
-use Rattle.std.proofs.Common.{◌≡◌, ℕ, ◌+◌, ◌≤◌, true, sym, ◌∙◌, subst, true≢false, arith}
+use Rattle.std.proofs.Common.{◌≡◌, ◌+◌, sym, ◌∙◌, subst, true≢false, arith}
 use Rattle.std.proofs.lemmas.Result.{err_from_is_err_and}
 use Rattle.register.specs.declared.register.Register.{Register}
 use Rattle.register.specs.Registers.{Grew}
@@ -9,7 +9,7 @@ use Rattle.records.proofs.Faith.{node_faithful}
 use Rattle.parts.specs.Parts.{From}
 use Rattle.parts.proofs.Betweens.{is_from, from_is, from_not}
 use Rattle.parts.proofs.nodes.put_from.Goals as goal
-use Rattle.parts.proofs.nodes.put_from.Goals.{then-next-b+then-fits+in_ok_insert, else-next-b, else-next-b-via-then-next-b+else-fits, else-next-b-via-else-next-b}
+use Rattle.parts.proofs.nodes.put_from.Goals.{then-next-b+then-fits+in_ok-insert, else-next-b, else-next-b-via-then-next-b+else-fits, else-next-b-via-else-next-b}
 
 pub loop-b-init : goal.loop-b-init
 loop-b-init g c =
@@ -37,11 +37,11 @@ loop-b-preserved g c =
     let x : Node = record { from = c.args.a; to = k; symbol = c.args.x } in
     let G : Register Node → Type 0 = λ nodes. Grew by_node (Upto by_node S (λ (z : Node). z.to) (k + 1)) c.args.nodes.now nodes in
     elim c.if-next-b.branch [
-      | then-next-b+then-fits+in_ok_insert w ↦ subst G (sym w.nodes-is)
+      | then-next-b+then-fits+in_ok-insert w ↦ subst G (sym w.nodes-is)
           (keyed_taken by_node S (λ (z : Node). z.to) (λ z. z ≡ x) c.args.nodes.now c.loop-b.nodes w.insert.new.self k
           (is_from h c.args.x c.args.j c.args.next.now c.args.a k (omega arith) w.if-next-b.true (sym w.fits.ensures ∙ w.if-fits.true))
           (from_is h c.args.x c.args.j c.args.next.now c.args.a k)
-          c.loop-b.invariant (grew_put by_node node_faithful c.loop-b.nodes w.insert.new.self x w.in_ok_insert.field-0 w.in_ok_insert.ensures))
+          c.loop-b.invariant (grew_put by_node node_faithful c.loop-b.nodes w.insert.new.self x w.in_ok-insert.field-0 w.in_ok-insert.ensures))
       | else-next-b w ↦ subst G (sym w.nodes-is)
           (keyed_passed by_node S (λ (z : Node). z.to) c.args.nodes.now c.loop-b.nodes k
           (from_not h c.args.x c.args.j c.args.next.now c.args.a k

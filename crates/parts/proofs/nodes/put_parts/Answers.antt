@@ -1,4 +1,4 @@
-use Rattle.std.proofs.Common.{◌≡◌, ℕ, ◌+◌, ◌<◌, sym, ◌∙◌, subst, arith}
+use Rattle.std.proofs.Common.{◌≡◌, ◌+◌, ◌<◌, sym, ◌∙◌, subst, arith}
 use Rattle.std.proofs.lemmas.Result.{err_from_is_err_and}
 use Rattle.parsing.specs.Grammar.{rule_count, lhs}
 use Rattle.register.specs.declared.register.Register.{Register}
@@ -10,7 +10,7 @@ use Rattle.parts.specs.Parts.{PartBelow}
 use Rattle.parts.proofs.Grammars.{left_is}
 use Rattle.parts.proofs.Placing.{rules_none, rule_taken, rule_passed, rule_short}
 use Rattle.parts.proofs.nodes.put_parts.Goals as goal
-use Rattle.parts.proofs.nodes.put_parts.Goals.{then-left-node+in_ok_put_parts_by, else-left-node}
+use Rattle.parts.proofs.nodes.put_parts.Goals.{then-left-node+in_ok-put_parts_by, else-left-node}
 
 pub put_parts_by-requires : goal.put_parts_by-requires
 put_parts_by-requires g c = let e = c.rules-rule-end.ensures in omega arith
@@ -39,9 +39,9 @@ loop-rule-preserved g c =
     let same : c.left.result ≡ lhs gr r = c.left.ensures ∙ left_is gr r rl in
     let G : Register Node → Type 0 = λ nodes. Grew by_node (PartBelow gr says c.args.node (r + 1)) c.args.nodes.now nodes in
     elim c.if-left-node.branch [
-      | then-left-node+in_ok_put_parts_by w ↦ subst G (sym w.nodes-is)
+      | then-left-node+in_ok-put_parts_by w ↦ subst G (sym w.nodes-is)
           (rule_taken gr says c.args.node c.args.nodes.now c.loop-rule.nodes w.put_parts_by.new.nodes r (sym same ∙ w.if-left-node.true)
-          c.loop-rule.invariant w.in_ok_put_parts_by.ensures)
+          c.loop-rule.invariant w.in_ok-put_parts_by.ensures)
       | else-left-node w ↦ subst G (sym w.nodes-is)
           (rule_passed gr says c.args.node c.args.nodes.now c.loop-rule.nodes r (λ e. w.if-left-node.false (same ∙ e)) c.loop-rule.invariant)
     ]

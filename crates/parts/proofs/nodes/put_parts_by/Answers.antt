@@ -1,4 +1,4 @@
-use Rattle.std.proofs.Common.{◌≡◌, ℕ, ◌+◌, ◌<◌, ◌≤◌, true, [], length, get_or, sym, ◌∙◌, subst, arith}
+use Rattle.std.proofs.Common.{◌≡◌, ◌+◌, ◌<◌, [], length, get_or, sym, ◌∙◌, subst, arith}
 use Rattle.std.proofs.lemmas.Result.{err_from_is_err_and}
 use Rattle.parsing.specs.Grammar.{rhs}
 use Rattle.spans.specs.Spans.{part_fits}
@@ -7,13 +7,13 @@ use Rattle.register.specs.Registers.{Grew, Lacks}
 use Rattle.register.proofs.Growing.{filled_short}
 use Rattle.records.specs.declared.node.Node.{Node}
 use Rattle.records.specs.Orders.{by_node}
-use Rattle.parts.specs.Marks.{Ends, Leads}
+use Rattle.parts.specs.Marks.{Ends}
 use Rattle.parts.specs.Parts.{Between, PartOf}
 use Rattle.parts.proofs.Grammars.{length_is, right_is}
 use Rattle.parts.proofs.Rows.{leads_none, leads_more}
-use Rattle.parts.proofs.Placing.{Here, parts_none, part_taken, part_passed, part_short}
+use Rattle.parts.proofs.Placing.{parts_none, part_taken, part_passed, part_short}
 use Rattle.parts.proofs.nodes.put_parts_by.Goals as goal
-use Rattle.parts.proofs.nodes.put_parts_by.Goals.{then-x-terminals+in_ok_put_between, else-x-terminals}
+use Rattle.parts.proofs.nodes.put_parts_by.Goals.{then-x-terminals+in_ok-put_between, else-x-terminals}
 
 pub loop-p-init : goal.loop-p-init
 loop-p-init g c =
@@ -76,11 +76,11 @@ loop-p-preserved g c =
           (subst (λ y. Ends (says y) c.args.i c.args.j c.loop-p.before (get_or rows (p + 1) []) c.ends-before.result) x c.ends-before.ensures)
           c.loop-p.invariant.0,
       elim c.if-x-terminals.branch [
-        | then-x-terminals+in_ok_put_between w ↦ subst G (sym w.nodes-is)
+        | then-x-terminals+in_ok-put_between w ↦ subst G (sym w.nodes-is)
             (part_taken gr says forward r c.args.i c.args.j p c.loop-p.before rows pm c.loop-p.invariant.0 c.completes-rows.ensures
             c.args.nodes.now c.loop-p.nodes w.put_between.new.nodes (let l = w.if-x-terminals.true in omega arith) c.loop-p.invariant.1
             (subst (λ y. Grew by_node (Between (says y) c.loop-p.before (get_or rows (p + 1) []) y c.args.i c.args.j) c.loop-p.nodes w.put_between.new.nodes) x
-            w.in_ok_put_between.ensures))
+            w.in_ok-put_between.ensures))
         | else-x-terminals w ↦ subst G (sym w.nodes-is)
             (part_passed gr says forward r c.args.i c.args.j p c.loop-p.before rows pm c.loop-p.invariant.0 c.completes-rows.ensures
             c.args.nodes.now c.loop-p.nodes (let l = w.if-x-terminals.false in omega arith) c.loop-p.invariant.1)
