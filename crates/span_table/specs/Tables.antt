@@ -6,7 +6,7 @@
 --   OfWord g ws n        a terminal over the word that it is, of the first n words
 --   OfLink src k         a nonterminal by which the link k enters its upper state, over the words between its places
 --   OfLinks src ks n     the same for one of the first n of the links ks
-use Rattle.std.specs.Prelude.{◌≡◌, ℕ, ◌+◌, ◌*◌, ◌<◌, ◌≤◌, Bool, true, ◌&&◌, ◌⊎◌, List, length, Some, ◌==◌, nat_le, nat_lt, slice_index, slice_index_or}
+use Rattle.std.specs.Prelude.{◌≡◌, ℕ, ◌+◌, ◌*◌, ◌<◌, ◌≤◌, Bool, true, ◌&&◌, ◌⊎◌, List, Some, ◌==◌, nat_le, nat_lt, slice_index, slice_index_or}
 use Rattle.parsing.specs.Grammar.{Grammar, Nonterminal}
 use Rattle.parsing.specs.Items.{Source}
 use Rattle.parsing.specs.Rows.{bit}

@@ -1,7 +1,7 @@
 //! The table, and the look-up.
 ghost use Rattle.std.specs.Prelude.{◌≡◌, ℕ, false};
 ghost use Rattle.span_table.specs.Tables.{told, Grown, One};
-ghost use Rattle.span_table.specs.Cells.{told_parts};
+ghost use Rattle.span_table.specs.TableLaws.{told_parts};
 
 use parts::Fits;
 

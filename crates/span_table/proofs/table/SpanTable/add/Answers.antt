@@ -1,6 +1,6 @@
 use Rattle.std.proofs.Common.{arith}
 use Rattle.span_table.specs.Tables.{told, One}
-use Rattle.span_table.specs.Cells.{set_grown, grown_none}
+use Rattle.span_table.proofs.Cells.{set_grown, grown_none}
 use Rattle.span_table.proofs.table.SpanTable.add.Goals as goal
 
 pub returns-then-symbol-lt64 : goal.returns-then-symbol-lt64

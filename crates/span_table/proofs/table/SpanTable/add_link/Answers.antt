@@ -1,10 +1,9 @@
-use Rattle.std.proofs.Common.{◌≡◌, ℕ, ◌+◌, ◌<◌, ◌≤◌, Some, None, sym, refl, ap, ◌∙◌, subst, arith}
-use Rattle.parsing.specs.Grammar.{Nonterminal}
+use Rattle.std.proofs.Common.{◌+◌, Some, sym, ap, ◌∙◌, subst, arith}
 use Rattle.span_table.specs.declared.table.SpanTable.{SpanTable}
-use Rattle.span_table.specs.Tables.{told, Grown, OfLink}
-use Rattle.span_table.specs.Cells.{Entered, entered_none, entered_taken, entered_passed, entered_all}
+use Rattle.span_table.specs.Tables.{told, Grown}
+use Rattle.span_table.proofs.Cells.{Entered, entered_none, entered_taken, entered_passed, entered_all}
 use Rattle.span_table.proofs.table.SpanTable.add_link.Goals as goal
-use Rattle.span_table.proofs.table.SpanTable.add_link.Goals.{in-Some+then-state-link, in-Some+else-state-link, in-default}
+use Rattle.span_table.proofs.table.SpanTable.add_link.Goals.{in-Some+then-state-link, in-Some+else-state-link, in_default}
 
 pub loop-x-init : goal.loop-x-init
 loop-x-init g c =
@@ -32,9 +31,9 @@ loop-x-preserved g c =
       | in-Some+else-state-link w ↦ subst G (sym w.self-is)
           (entered_passed src k start (told c.loop-x.self.cells) x
           (λ e. w.if-state-link.false (let q = sym w.in-Some.is ∙ c.next.ensures ∙ e in cc)) c.loop-x.invariant)
-      | in-default w ↦ subst G (sym w.self-is)
+      | in_default w ↦ subst G (sym w.self-is)
           (entered_passed src k start (told c.loop-x.self.cells) x
-          (λ e. w.in-default.not-Some k.state (c.next.ensures ∙ e)) c.loop-x.invariant)
+          (λ e. w.in_default.not-Some k.state (c.next.ensures ∙ e)) c.loop-x.invariant)
     ]
 
 pub returns : goal.returns

@@ -1,5 +1,5 @@
 use Rattle.span_table.specs.Tables.{told, Grown}
-use Rattle.span_table.specs.Cells.{Entered}
+use Rattle.span_table.proofs.Cells.{Entered}
 use Rattle.span_table.proofs.table.SpanTable.add_link.Given as goal
 
 abbrev pub invariant-loop-x : goal.invariant-loop-x

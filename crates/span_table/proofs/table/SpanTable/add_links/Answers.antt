@@ -1,5 +1,5 @@
 use Rattle.span_table.specs.Tables.{told}
-use Rattle.span_table.specs.Cells.{links_none, links_more}
+use Rattle.span_table.proofs.Cells.{links_none, links_more}
 use Rattle.span_table.proofs.table.SpanTable.add_links.Goals as goal
 
 pub loop-k-init : goal.loop-k-init

@@ -1,7 +1,7 @@
-use Rattle.std.proofs.Common.{◌≡◌, ℕ, ◌+◌, ◌<◌, ◌≤◌, List, length, get_or, sym, refl, ◌∙◌, subst, arith}
+use Rattle.std.proofs.Common.{◌+◌, sym, subst, arith}
 use Rattle.span_table.specs.declared.table.SpanTable.{SpanTable}
 use Rattle.span_table.specs.Tables.{told, Grown, OfWord}
-use Rattle.span_table.specs.Cells.{words_none, words_taken, words_passed, words_all}
+use Rattle.span_table.proofs.Cells.{words_none, words_taken, words_passed, words_all}
 use Rattle.span_table.proofs.table.SpanTable.add_words.Goals as goal
 use Rattle.span_table.proofs.table.SpanTable.add_words.Goals.{then-words-i, else-words-i}
 

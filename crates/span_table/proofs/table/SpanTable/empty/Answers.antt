@@ -1,4 +1,4 @@
-use Rattle.span_table.specs.Cells.{told_zeros}
+use Rattle.span_table.proofs.Cells.{told_zeros}
 use Rattle.span_table.proofs.table.SpanTable.empty.Goals as goal
 
 pub returns : goal.returns

@@ -2,7 +2,7 @@ use Rattle.std.proofs.Common.{ℕ, eqb, sym, ap, ◌∙◌, arith}
 use Rattle.std.proofs.lemmas.Bool.{le-ltb}
 use Rattle.rows.proofs.Bits.{bit_test}
 use Rattle.rows.proofs.Rows.{on_past}
-use Rattle.span_table.specs.Cells.{told_here, told_back}
+use Rattle.span_table.proofs.Cells.{told_here, told_back}
 use Rattle.span_table.proofs.table.SpanTableFits.fits.Goals as goal
 
 pub returns-then-to-from : goal.returns-then-to-from

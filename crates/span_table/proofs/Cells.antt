@@ -1,16 +1,13 @@
 -- What the cells of a table tell, and how they change.
-use Rattle.std.specs.Prelude.{◌≡◌, ℕ, zero, suc, ◌+◌, ◌*◌, ◌%◌, ◌^◌, ◌<◌, ◌≤◌, Bool, true, false, ◌&&◌, ◌≢◌, ◌⊎◌, List, [], ◌∷◌, length, replicate, Some, bit_or, nat_le, nat_lt, slice_index, slice_index_or, slice_set, refl}
-use Rattle.std.proofs.Common.{sym, ap₂, subst, ◌∙◌, true≢false, inl, inr, arith, get_or-set_same, get_or-set_other}
-use Rattle.std.proofs.Math.Path.{ap}
-use borrow.Author.Tests.{ltb-true, leb-true}
-use Rattle.std.proofs.lemmas.Bool.{cases_lt, cases_order, lt-ltb, le-leb, and_parts, and_from, and_left, and_right}
+use Rattle.std.specs.Prelude.{◌≡◌, ℕ, zero, suc, ◌+◌, ◌*◌, ◌%◌, ◌^◌, ◌<◌, ◌≤◌, Bool, true, false, ◌&&◌, ◌≢◌, ◌⊎◌, List, length, replicate, Some, bit_or, nat_le, nat_lt, slice_index, slice_index_or, slice_set, refl}
+use Rattle.std.proofs.Common.{sym, ap, ap₂, subst, ◌∙◌, true≢false, inl, inr, arith, get_or-set_same, get_or-set_other}
+use Rattle.std.proofs.lemmas.Bool.{cases_lt, cases_order, lt-ltb, le-leb, and_from}
 use Rattle.parsing.specs.Grammar.{Grammar, Nonterminal}
 use Rattle.parsing.specs.Items.{Source}
-use Rattle.parsing.specs.Rows.{bit}
-use Rattle.spans.specs.Spans.{IsWord}
 use Rattle.rows.specs.Changes.{Joins}
 use Rattle.rows.proofs.Rows.{on_zero, bit_joins}
 use Rattle.link_growth.specs.declared.Link.{Link}
+use Rattle.span_table.specs.TableLaws.{told_parts}
 use Rattle.span_table.specs.Tables.{on, told, Grown, One, OfWord, OfLink, OfLinks, link_of}
 
 not-true : (b : Bool) → (b ≢ true) → b ≡ false
@@ -22,13 +19,6 @@ module _ (cells : List ℕ) (x i j : ℕ) where
   unfolding told
   told_from l m h = and_from (nat_lt j 256) _ (lt-ltb j 256 l) (and_from (nat_le i j) _ (le-leb i j m) h)
 
-  pub told_parts : told cells x i j ≡ true → (j < 256) × (i ≤ j) × (on (slice_index cells (i * 256 + j)) x ≡ true)
-  unfolding told
-  told_parts h =
-      let (a, b) = and_parts (nat_lt j 256) (nat_le i j && on (slice_index cells (i * 256 + j)) x) h in
-      let (c, d) = and_parts (nat_le i j) (on (slice_index cells (i * 256 + j)) x) b in
-      (ltb-true j 256 a, leb-true i j c, d)
-
   pub told_here : j < 256 → i ≤ j → told cells x i j ≡ on (slice_index cells (i * 256 + j)) x
   unfolding told
   told_here l m =
@@ -36,7 +26,7 @@ module _ (cells : List ℕ) (x i j : ℕ) where
       ∙ ap (λ t. t && on (slice_index cells (i * 256 + j)) x) (le-leb i j m)
 
   pub told_back : j < i → told cells x i j ≡ false
-  told_back l = not-true (told cells x i j) (λ h. let (a, b, c) = told_parts h in omega arith)
+  told_back l = not-true (told cells x i j) (λ h. let (a, b, c) = told_parts cells x i j h in omega arith)
 
 zeros : (n k : ℕ) → ◌≡◌ {A = ℕ} (slice_index (replicate n 0) k) 0
 zeros zero k = refl
