@@ -7,7 +7,7 @@ use Rattle.table_format.specs.Sheets.{table_of}
 use Rattle.tables.specs.Meaning.{bytes, rows_of, source, Accepted}
 use Rattle.tables.specs.declared.table.Table.{Table}
 use Rattle.built_states.specs.Built.{Built}
-use Rattle.built_states.specs.Writing.{sheet as built-sheet}
+use Rattle.built_states.specs.Writing.{sheet as built_sheet}
 use Rattle.built_states.specs.declared.built.BuiltStates.{BuiltStates}
 use Rattle.table_text.specs.States.{text_of_table}
 use Rattle.table_inspection.specs.Reports.{Passes, passing_line, listing, TableReport}
@@ -34,7 +34,7 @@ pub supplied_report : (g : Grammar) (b : List ℕ) (t : Table) (text : List ℕ)
 supplied_report g b t text some a e = TableReport.supplied (rows_of t) some (passed g b t a) (e ∙ text_is g b t (codes "supplied") a)
 
 pub built_report : (g : Grammar) (states : BuiltStates) (d : List ℕ) (t : Table) (text : List ℕ) → states.grammar ≡ g
-    → Built (meaning g) states.count states.rows states.steps → d ≡ built-sheet states → Accepted g d t
+    → Built (meaning g) states.count states.rows states.steps → d ≡ built_sheet states → Accepted g d t
     → text ≡ text_of g t (codes "built and written") (length d) → (b : List ℕ) → length b ≡ 0 → TableReport (sheet g) b text
 built_report g states d t text same made i a e b none =
     let whole = i ∙ sheet_is g states same in

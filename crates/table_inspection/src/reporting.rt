@@ -1,7 +1,7 @@
 //! The report of a table sheet for a grammar, and of both sheets.
 ghost use Rattle.std.specs.Prelude.{◌≡◌, ℕ, List, ◌++◌, length, IfOk, string_bytes, codes};
 ghost use Rattle.grammar.specs.Meaning.{sheet as sheet_of, meaning};
-ghost use Rattle.built_states.specs.Writing.{sheet as built-sheet};
+ghost use Rattle.built_states.specs.Writing.{sheet as built_sheet};
 ghost use Rattle.table_format.specs.Breaches.{Checked};
 ghost use Rattle.table_format.specs.Walks.{passes};
 ghost use Rattle.tables.specs.Meaning.{source};
@@ -51,7 +51,7 @@ fn refused<'a>(
 
 /// The table sheet of built states.
 fn written(heap: Global, states: &BuiltStates) -> Result<Vec<u8>, AllocError>
-    ensures { IfOk result (λ v. (v.items ≡ built-sheet states.now) × Checked (meaning states.now.grammar) (built-sheet states.now) passes) }
+    ensures { IfOk result (λ v. (v.items ≡ built_sheet states.now) × Checked (meaning states.now.grammar) (built_sheet states.now) passes) }
 {
     let mut room = vec![in heap; 0u8; states.sheet_len()]?;
     match states.write(room.as_mut_slice()) {

@@ -10,7 +10,7 @@ pub returns-in-Err : goal.returns-in-Err
 returns-in-Err c =
     let g = c.args.grammar.now in
     let f = c.in-Err.fault in
-    let many = c.in-Err.ensures in
+    let many = c.in-Err.ensures.built in
     IfOk-weaker c.refused.result (λ text. (words : List ℕ) × (string_bytes text ≡ refusal_text f words))
     (λ text. (b : List ℕ) → length b ≡ 0 → TableReport (sheet g) b (string_bytes text))
     (λ text p b none. TableReport.too_many p.0 none many.1 (p.1 ∙ ap (λ e. refusal_text e p.0) many.0)) c.refused.ensures
@@ -18,7 +18,7 @@ returns-in-Err c =
 pub unreachable-requires : goal.unreachable-requires
 unreachable-requires c =
     let sheet_of = c.in_ok-sheet.ensures in
-    not_refused c.args.grammar.now c.in-Ok.states c.as_slice.result.now c.in-Err-check.field-0 c.in-Ok.ensures.over_grammar
+    not_refused c.args.grammar.now c.in-Ok.states c.as_slice.result.now c.in-Err-check.field-0 c.in-Ok.ensures.built.0
     (c.as_slice.ensures.value ∙ sheet_of.0) sheet_of.1 c.in-Err-check.ensures
 
 pub returns : goal.returns
@@ -30,5 +30,5 @@ returns c =
     let size : c.len.result ≡ length d = c.len.ensures ∙ sym c.as_slice.ensures.len in
     IfOk-weaker c.listed.result (λ text. string_bytes text ≡ text_of g t how c.len.result)
     (λ text. (b : List ℕ) → length b ≡ 0 → TableReport (sheet g) b (string_bytes text))
-    (λ text p. built_report g c.in-Ok.states d t (string_bytes text) c.in-Ok.ensures.over_grammar c.in-Ok.ensures.built
+    (λ text p. built_report g c.in-Ok.states d t (string_bytes text) c.in-Ok.ensures.built.0 c.in-Ok.ensures.built.1
     (c.as_slice.ensures.value ∙ c.in_ok-sheet.ensures.0) c.in-Ok-check.ensures (p ∙ ap (text_of g t how) size)) c.listed.ensures
