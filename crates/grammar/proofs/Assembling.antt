@@ -1,5 +1,5 @@
 -- From the parts of a sheet to its grammar: the rows of the table that are left, and that the bytes are those of the grammar's sheet.
-use Rattle.std.proofs.Common.{◌≡◌, ℕ, ◌+◌, ◌<◌, ◌≤◌, List, [], map, length, get_or, take, Some, None, sym, ap, ◌∙◌, subst, subst₂, inl, inr, arith}
+use Rattle.std.proofs.Common.{◌≡◌, ℕ, ◌+◌, ◌<◌, ◌≤◌, List, [], map, length, take, Some, None, sym, ap, ◌∙◌, subst, subst₂, inl, inr, arith}
 use Rattle.std.proofs.lemmas.List.{length-take, get_or-take, length-map, get_or-map}
 use Rattle.parsing.specs.Grammar.{Grammar, Productive}
 use Rattle.grammar_format.specs.Sheets.{Sheet, sheet_bytes}

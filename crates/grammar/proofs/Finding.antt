@@ -1,5 +1,5 @@
 -- Looking for the first number that has a property.
-use Rattle.std.proofs.Common.{◌≡◌, ℕ, ◌+◌, ◌<◌, ◌≤◌, sym, subst, arith}
+use Rattle.std.proofs.Common.{◌≡◌, ℕ, ◌+◌, subst, arith}
 use native.Mathlib.Decide.{dec_lt}
 use Rattle.grammar.specs.Finding.{NoneOf}
 

@@ -1,7 +1,7 @@
 -- How a rule as it is held uses the goal.
-use Rattle.std.proofs.Common.{◌≡◌, ℕ, ◌+◌, ◌<◌, ◌≤◌, Bool, true, false, ◌≢◌, get_or, MatchBool, sym, ◌∙◌, arith}
+use Rattle.std.proofs.Common.{◌≡◌, ℕ, ◌+◌, ◌<◌, Bool, true, false, ◌≢◌, get_or, MatchBool, sym, ◌∙◌, arith}
 use Rattle.std.proofs.lemmas.List.{get_or-drop}
-use Rattle.grammar_format.specs.Breaches.{GoalMisused, other_left, no_start, again, within}
+use Rattle.grammar_format.specs.Breaches.{GoalMisused, within}
 use Rattle.grammar.specs.Holding.{rule_block}
 use Rattle.grammar.specs.declared.rule.Rule.{Rule}
 

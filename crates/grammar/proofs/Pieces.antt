@@ -1,9 +1,8 @@
 -- The bytes of a grammar's sheet, read off what it holds.
-use Rattle.std.proofs.Common.{◌≡◌, ℕ, zero, suc, ◌+◌, ◌-◌, ◌*◌, ◌<◌, ◌≤◌, List, [], ◌∷◌, ◌++◌, map, length, get_or, take, drop, replicate, sym, refl, ap, ◌∙◌, subst, ap₂, subst₂, append_assoc, arith}
+use Rattle.std.proofs.Common.{◌≡◌, ℕ, zero, suc, ◌+◌, ◌-◌, ◌*◌, ◌<◌, ◌≤◌, List, [], ◌∷◌, ◌++◌, length, get_or, take, drop, replicate, sym, refl, ap, ◌∙◌, subst, ap₂, subst₂, append_assoc, arith}
 use Rattle.std.specs.List.{flat_map}
 use Rattle.std.proofs.lemmas.List.{length-take, length-drop, length-replicate, get_or-drop, get_or-replicate, get_or-take, get_or_default, same_lists, take-append-drop, take-take, take_at, drop_at, length-append}
-use Rattle.parsing.specs.Grammar.{rule_count}
-use Rattle.grammar_format.specs.Sheets.{Sheet, sheet_bytes, rule_bytes, rules_bytes, spelling_bytes, spellings_bytes, wide, rules_end, header_bytes}
+use Rattle.grammar_format.specs.Sheets.{sheet_bytes, rule_bytes, rules_bytes, spelling_bytes, spellings_bytes, wide, header_bytes}
 use Rattle.grammar_format.proofs.Decoding as decoding
 use Rattle.grammar_format.proofs.Listed.{length_joined}
 use Rattle.grammar_format.proofs.Sizes.{sheet_bytes_few}

@@ -1,5 +1,5 @@
 -- The rules of a grammar as they are held, read as those of the grammar that they stand for.
-use Rattle.std.proofs.Common.{◌≡◌, ℕ, ◌<◌, ◌≤◌, List, [], map, length, get_or, take, ap, ◌∙◌, arith}
+use Rattle.std.proofs.Common.{◌≡◌, ℕ, ◌<◌, ◌≤◌, List, [], length, get_or, take, ap, ◌∙◌, arith}
 use Rattle.std.proofs.lemmas.List.{get_or-map, length-map, length-take, get_or-take}
 use Rattle.parsing.specs.Grammar.{Rule as Rewriting, rule_count, rule, lhs, rhs}
 use Rattle.grammar.specs.Holding.{rewriting, grammar_from, rule_at}

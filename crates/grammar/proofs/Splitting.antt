@@ -1,5 +1,5 @@
 -- The bytes of a spelling, and the sheet behind it.
-use Rattle.std.proofs.Common.{◌≡◌, ℕ, suc, ◌+◌, ◌-◌, ◌*◌, ◌<◌, ◌≤◌, List, [], ◌∷◌, length, get_or, take, drop, sym, refl, ap, ◌∙◌, subst, add-one, arith}
+use Rattle.std.proofs.Common.{◌≡◌, ℕ, ◌+◌, ◌-◌, ◌*◌, ◌<◌, ◌≤◌, List, [], ◌∷◌, length, get_or, take, drop, sym, ap, ◌∙◌, subst, add-one, arith}
 use Rattle.std.proofs.lemmas.List.{take_rest}
 use Rattle.grammar_format.specs.Fields.{terminals, rules, remains, spelling, first_spelling, behind_spelling}
 use Rattle.grammar_format.proofs.Cleaning.{row_15, well_spelled}

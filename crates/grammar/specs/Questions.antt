@@ -3,7 +3,7 @@
 --   right_length g r     how many right symbols it has; 255 outside
 --   right_symbol g r d   its right symbol at d; 255 outside
 --   spelled s t          the spelling of the terminal t; none outside
-use Rattle.std.specs.Prelude.{ℕ, cond, List, [], length, Some, None, Option, nat_lt, slice_index_or}
+use Rattle.std.specs.Prelude.{ℕ, cond, List, length, Some, None, Option, nat_lt, slice_index_or}
 use Rattle.parsing.specs.Grammar.{Grammar, rule_count, lhs, rhs}
 use Rattle.grammar_format.specs.Sheets.{Sheet}
 use Rattle.grammar_format.specs.Keeping.{spelling_of}

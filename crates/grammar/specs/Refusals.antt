@@ -2,7 +2,7 @@
 --   refusal f      the number, the layer and the places of the fault f
 --   FirstFault b f the fault f is the first row of the table that applies to the bytes b, at its lowest place
 --   Refused b f    that, and the bytes are those of no sheet that keeps the rules
-use Rattle.std.specs.Prelude.{◌≡◌, ℕ, List, ◌≢◌}
+use Rattle.std.specs.Prelude.{ℕ, List, ◌≢◌}
 use Rattle.grammar_format.specs.Sheets.{Sheet, sheet_bytes}
 use Rattle.grammar_format.specs.Keeping.{Keeps}
 use Rattle.grammar_format.specs.Breaches.{First}

@@ -8,7 +8,7 @@ use Rattle.std.specs.List.{flat_map}
 use Rattle.parsing.specs.Grammar.{Rule, Nonterminal, Productive, rule_count, rule, lhs, rhs}
 use Rattle.grammar_format.specs.Sheets.{Sheet, rule_bytes, spelling_bytes, rules_bytes, spellings_bytes, rules_end, sheet_bytes}
 use Rattle.grammar_format.specs.Keeping.{Keeps, spelling_of}
-use Rattle.grammar_format.specs.Fields.{number, terminals, nonterminals, rules, block, left, right, rule_of}
+use Rattle.grammar_format.specs.Fields.{number, terminals, nonterminals, rules, block, right, rule_of}
 use Rattle.grammar_format.specs.Fields.{first_spelling, behind_spelling, remains, spelling, rules_of, grammar_of, sheet_of}
 use Rattle.grammar_format.specs.Breaches.{Breach, Clean}
 use Rattle.grammar_format.proofs.Listed.{listed_is, length_joined, drop_joined}

@@ -1,5 +1,5 @@
 -- Moving the items of a row over a symbol.
-use Rattle.std.proofs.Common.{◌≡◌, ℕ, suc, ◌+◌, ◌<◌, true, ◌⊎◌, ◌↔◌, length, sym, ap, ◌∙◌, subst, inr, ⊎_elim, arith, below_more}
+use Rattle.std.proofs.Common.{◌≡◌, ℕ, suc, ◌+◌, ◌<◌, true, ◌↔◌, length, sym, ap, ◌∙◌, subst, inr, ⊎_elim, arith, below_more}
 use Rattle.parsing.specs.Grammar.{Grammar, rhs}
 use Rattle.parsing.specs.Items.{Next}
 use Rattle.table_format.specs.ItemSets.{Items, Completed, Moved, Moves, StepTo}

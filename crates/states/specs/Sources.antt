@@ -1,6 +1,6 @@
 -- What every source of states keeps.
 --   Sourced src   src is a lawful source of 1 to 255 states over a well_formed grammar, and answers none and no outside its ranges
-use Rattle.std.specs.Prelude.{ℕ, ◌≤◌}
+use Rattle.std.specs.Prelude.{◌≤◌}
 use Rattle.parsing.specs.Grammar.{WellFormed}
 use Rattle.parsing.specs.Items.{Source, Lawful}
 use Rattle.table_format.specs.Tables.{Bounded}

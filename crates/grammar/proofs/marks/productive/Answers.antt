@@ -1,4 +1,4 @@
-use Rattle.std.proofs.Common.{ℕ, ◌∙◌}
+use Rattle.std.proofs.Common.{◌∙◌}
 use Rattle.std.proofs.lemmas.Bool.{lt-ltb}
 use Rattle.grammar.proofs.Marking.{terminals_sound, marks_tell}
 use Rattle.grammar.proofs.marks.productive.Goals as goal

@@ -1,4 +1,4 @@
-use Rattle.std.proofs.Common.{◌≡◌, ℕ, ◌-◌, ◌<◌, ◌≤◌, sym, ap, ◌∙◌, subst, arith}
+use Rattle.std.proofs.Common.{◌≡◌, ◌-◌, ◌<◌, ◌≤◌, sym, subst, arith}
 use Rattle.grammar_format.specs.Fields.{terminals, rules}
 use Rattle.grammar.specs.declared.rule.Rule.{Rule}
 use Rattle.grammar.proofs.Assembling.{laid_at, rules_front, rule_front, goal_fault, goal_clean, fitted_front, repeated_fault, repeated_clean}

@@ -1,4 +1,4 @@
-use Rattle.std.proofs.Common.{◌≡◌, length, take}
+use Rattle.std.proofs.Common.{take}
 use Rattle.std.specs.List.{flat_map}
 use Rattle.grammar_format.specs.Sheets.{wide}
 use Rattle.grammar.specs.Writing.{Put}

@@ -1,4 +1,4 @@
-use Rattle.std.proofs.Common.{◌<◌, arith}
+use Rattle.std.proofs.Common.{arith}
 use Rattle.grammar.proofs.Held.{held, right_answer, right_past, outside}
 use Rattle.grammar.proofs.grammar.Grammar.right.Goals as goal
 

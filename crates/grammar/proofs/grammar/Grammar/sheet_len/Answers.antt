@@ -1,4 +1,4 @@
-use Rattle.std.proofs.Common.{◌≡◌, ℕ, ◌≤◌, length, take, ap, arith}
+use Rattle.std.proofs.Common.{◌≡◌, ℕ, length, take, ap, arith}
 use Rattle.std.specs.List.{flat_map}
 use Rattle.grammar.specs.Holding.{spelling_piece}
 use Rattle.grammar.proofs.Held.{held}

@@ -1,4 +1,4 @@
-use Rattle.std.proofs.Common.{Some, None, sym, ap, ◌∙◌, arith}
+use Rattle.std.proofs.Common.{Some, None, ap, ◌∙◌, arith}
 use Rattle.std.proofs.lemmas.Bool.{cond_below}
 use Rattle.grammar.proofs.Held.{held, spelling_is}
 use Rattle.grammar.proofs.grammar.Grammar.spelling.Goals as goal

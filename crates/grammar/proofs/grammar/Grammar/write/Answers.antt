@@ -1,5 +1,5 @@
 use Rattle.std.proofs.Common.{arith}
-use Rattle.grammar.proofs.Pieces.{rules_size, size_is, spellings_are, numbers_small, written}
+use Rattle.grammar.proofs.Pieces.{rules_size, size_is, numbers_small, written}
 use Rattle.grammar_format.proofs.Decoding.{length_sheet_bytes}
 use Rattle.grammar.specs.Meaning.{sheet}
 use Rattle.grammar.proofs.grammar.Grammar.write.Goals as goal

@@ -1,5 +1,5 @@
-use Rattle.std.proofs.Common.{length, ap, ◌∙◌, arith, rules}
-use Rattle.std.proofs.lemmas.List.{places, take_at}
+use Rattle.std.proofs.Common.{length, ap, ◌∙◌, rules}
+use Rattle.std.proofs.lemmas.List.{take_at}
 use Rattle.std.proofs.lemmas.Slice.{overwrites}
 use Rattle.grammar.proofs.spelling.Spelling.hold.Goals as goal
 
