@@ -1,27 +1,13 @@
 -- What the order of nodes says of a list that is in order.
-use Rattle.std.proofs.Common.{◌≡◌, ℕ, ◌+◌, ◌-◌, ◌<◌, ◌≤◌, Bool, true, false, ◌⊎◌, List, length, get_or, Ordering, Less, Equal, Greater, sym, refl, ap, ◌∙◌, subst, ap₂, inl, inr, arith}
+use Rattle.std.proofs.Common.{◌≡◌, ℕ, ◌+◌, ◌-◌, ◌<◌, ◌≤◌, Bool, true, false, ◌⊎◌, List, length, get_or, Ordering, Less, Equal, Greater, sym, refl, ap, ◌∙◌, subst, inl, inr, arith}
 use Rattle.std.specs.Ordering.{ordering_then, ordering_reverse, nat_cmp}
-use Rattle.std.specs.Cmp.{nat_cmp_total}
-use Rattle.std.proofs.lemmas.Bool.{cases_order, cases_lt}
+use Rattle.std.proofs.lemmas.Cmp.{ranked}
+use Rattle.std.proofs.lemmas.Bool.{cases_lt}
 use Rattle.register.specs.Registers.{Has, Climbs}
 use Rattle.records.specs.declared.node.Node.{Node}
-use Rattle.records.specs.Orders.{by_node}
+use Rattle.records.specs.Orders.{node_cmp, by_node}
 use Rattle.records.proofs.Faith.{node_faithful}
-use Rattle.sweep.specs.Finding.{node_at, node_of, Before, LowerBound, AllDone, Open, NoneBelow, LastBelow}
-
-less_number : (x y : ℕ) → nat_cmp x y ≡ Less → x < y
-less_number x y h = elim (cases_order x y) [
-  | inl e ↦ let q = (nat_cmp_total.says x y Equal e) in let z : ◌≡◌ {A = ℕ} 0 1 = cc in absurd (omega arith)
-  | inr (inl l) ↦ l
-  | inr (inr l) ↦ let q = (nat_cmp_total.says x y Greater l) in let z : ◌≡◌ {A = ℕ} 0 1 = cc in absurd (omega arith)
-]
-
-equal_number : (x y : ℕ) → nat_cmp x y ≡ Equal → x ≡ y
-equal_number x y h = elim (cases_order x y) [
-  | inl e ↦ e
-  | inr (inl l) ↦ let q = (nat_cmp_total.says x y Less l) in let z : ◌≡◌ {A = ℕ} 0 1 = cc in absurd (omega arith)
-  | inr (inr l) ↦ let q = (nat_cmp_total.says x y Greater l) in let z : ◌≡◌ {A = ℕ} 0 1 = cc in absurd (omega arith)
-]
+use Rattle.sweep.specs.Finding.{node_at, node_of, Before, LowerBound, AllDone, NoneBelow}
 
 split : (a b : Ordering) → ordering_then a b ≡ Less → (a ≡ Less) ⊎ ((a ≡ Equal) × (b ≡ Less))
 split Less b h = inl refl
@@ -32,20 +18,20 @@ split Greater b h = let z : ◌≡◌ {A = ℕ} 0 1 = cc in absurd (omega arith)
 abbrev pub Below : Node → Node → Type 0
 Below x y = (x.from < y.from) ⊎ ((x.from ≡ y.from) × ((x.to < y.to) ⊎ ((x.to ≡ y.to) × (x.symbol < y.symbol))))
 
-pub node_less : (x y : Node) → by_node.cmp x y ≡ Less → Below x y
+pub node_less : (x y : Node) → node_cmp x y ≡ Less → Below x y
 node_less x y h = elim (split (nat_cmp x.from y.from) (ordering_then (nat_cmp x.to y.to) (nat_cmp x.symbol y.symbol)) h) [
-  | inl a ↦ inl (less_number x.from y.from a)
+  | inl a ↦ inl (ranked x.from y.from Less (sym a))
   | inr (a, b) ↦ inr (
-    equal_number x.from y.from a,
+    ranked x.from y.from Equal (sym a),
     elim (split (nat_cmp x.to y.to) (nat_cmp x.symbol y.symbol) b) [
-      | inl c ↦ inl (less_number x.to y.to c)
-      | inr (c, d) ↦ inr (equal_number x.to y.to c, less_number x.symbol y.symbol d)
+      | inl c ↦ inl (ranked x.to y.to Less (sym c))
+      | inr (c, d) ↦ inr (ranked x.to y.to Equal (sym c), ranked x.symbol y.symbol Less (sym d))
     ],
   )
 ]
 
-node_greater : (x y : Node) → by_node.cmp x y ≡ Greater → Below y x
-node_greater x y h = node_less y x (by_node.flip y x ∙ ap ordering_reverse h)
+node_greater : (x y : Node) → node_cmp x y ≡ Greater → Below y x
+node_greater x y h = node_less y x (by_node.antisymm y x ∙ ap ordering_reverse h)
 
 before_target : (z : Node) (i j : ℕ) → Below z (node_at 0 i j) → Before z i j
 before_target z i j (inl l) = inl l
@@ -63,8 +49,8 @@ not_before z i j (inr (e, inr (f, l))) (inr (d, k)) = omega arith
 module _ (us : List Node) (i j k : ℕ) where
   -- The place where the first node from i to j would stand.
   pub bound_missing : k ≤ length us
-      → (Climbs by_node us → ((t : ℕ) → t < k → by_node.cmp (node_of us t) (node_at 0 i j) ≡ Less)
-      × ((t : ℕ) → k ≤ t → t < length us → by_node.cmp (node_of us t) (node_at 0 i j) ≡ Greater))
+      → (Climbs by_node us → ((t : ℕ) → t < k → node_cmp (node_of us t) (node_at 0 i j) ≡ Less)
+      × ((t : ℕ) → k ≤ t → t < length us → node_cmp (node_of us t) (node_at 0 i j) ≡ Greater))
       → LowerBound us i j k
   bound_missing l f = record {
     within = l;
@@ -72,7 +58,7 @@ module _ (us : List Node) (i j k : ℕ) where
     above = λ up t h m. not_before (node_of us t) i j (node_greater (node_of us t) (node_at 0 i j) ((f up).1 t h m));
   }
 
-  pub bound_found : k < length us → by_node.cmp (node_of us k) (node_at 0 i j) ≡ Equal → LowerBound us i j k
+  pub bound_found : k < length us → node_cmp (node_of us k) (node_at 0 i j) ≡ Equal → LowerBound us i j k
   bound_found l e =
       let s : node_of us k ≡ node_at 0 i j = node_faithful (node_of us k) (node_at 0 i j) e in
       record {

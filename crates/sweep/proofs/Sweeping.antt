@@ -1,5 +1,5 @@
 -- How a sweep goes on, and what it has at its end.
-use Rattle.std.proofs.Common.{◌≡◌, ℕ, zero, suc, ◌+◌, ◌<◌, ◌≤◌, Bool, true, false, ◌⊎◌, List, [], ◌∷◌, length, get_or, set, replicate, sym, refl, ap, ◌∙◌, subst, inl, inr, true≢false, arith}
+use Rattle.std.proofs.Common.{◌≡◌, ℕ, zero, suc, ◌+◌, ◌<◌, ◌≤◌, Bool, true, false, ◌⊎◌, List, [], ◌∷◌, length, get_or, set, replicate, sym, refl, subst, inl, inr, true≢false, arith}
 use Rattle.std.proofs.lemmas.Bool.{cases_order, cases_lt}
 use Rattle.parsing.specs.Grammar.{Grammar, Nonterminal, WellFormed, rule_count, lhs, rhs, start}
 use Rattle.spans.specs.Spans.{part_fits, Placed, Met, crown, below}
@@ -9,7 +9,7 @@ use Rattle.register.proofs.Growing.{has_none}
 use Rattle.records.specs.declared.node.Node.{Node}
 use Rattle.records.specs.Orders.{by_node}
 use Rattle.parts.specs.Marks.{Marked}
-use Rattle.parts.specs.Parts.{PartOf, PartBelow}
+use Rattle.parts.specs.Parts.{PartBelow}
 use Rattle.parts.proofs.Rows.{path_forward, marked_back, unmarked}
 use Rattle.sweep.specs.Finding.{node_at, AllDone, Open, NoneBelow, LastBelow}
 use Rattle.sweep.specs.Sweeps.{MetNode, Sweep, Past, Exactly}

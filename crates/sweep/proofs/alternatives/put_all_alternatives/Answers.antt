@@ -1,6 +1,5 @@
-use Rattle.std.proofs.Common.{◌≡◌, length, subst, arith}
+use Rattle.std.proofs.Common.{length}
 use Rattle.std.proofs.lemmas.Result.{err_from_is_err_and}
-use Rattle.register.specs.Registers.{Grew}
 use Rattle.register.proofs.Growing.{filled_short}
 use Rattle.records.specs.Orders.{by_alternative}
 use Rattle.sweep.specs.Sweeps.{OfSome}

@@ -1,5 +1,5 @@
-use Rattle.std.proofs.Common.{◌≡◌, ℕ, ◌-◌, ◌<◌, ◌≤◌, List, sym, ap, ◌∙◌, subst, arith}
-use Rattle.register.specs.Registers.{held, Climbs}
+use Rattle.std.proofs.Common.{◌-◌, List, subst, arith}
+use Rattle.register.specs.Registers.{Climbs}
 use Rattle.records.specs.declared.node.Node.{Node}
 use Rattle.records.specs.Orders.{by_node}
 use Rattle.sweep.specs.Finding.{node_of, NoneBelow, LastBelow}

@@ -1,10 +1,10 @@
-use Rattle.std.proofs.Common.{◌≡◌, ℕ, ◌<◌, ◌≤◌, Bool, true, List, length, get_or, sym, ap, ◌∙◌, subst, arith, rules}
+use Rattle.std.proofs.Common.{◌≡◌, List, ◌∙◌, subst, arith, rules}
 use Rattle.std.proofs.lemmas.List.{get_or_default}
-use Rattle.register.specs.Registers.{held, Climbs}
+use Rattle.register.specs.Registers.{Climbs}
 use Rattle.records.specs.declared.node.Node.{Node}
 use Rattle.records.specs.Orders.{by_node}
 use Rattle.sweep.specs.Finding.{node_at, node_of, AllDone, Open}
-use Rattle.sweep.proofs.Ordering.{Run, run_more, run_all}
+use Rattle.sweep.proofs.Ordering.{run_all}
 use Rattle.sweep.proofs.find.open_symbol.Goals as goal
 use Rattle.sweep.proofs.find.open_symbol.Goals.{then-node-i-via-then-node-i, then-node-i-via-else-node-i+then-node-j}
 

@@ -1,20 +1,19 @@
-use Rattle.std.proofs.Common.{◌≡◌, ℕ, ◌+◌, ◌<◌, [], length, get_or, sym, ap, ◌∙◌, subst, arith}
+use Rattle.std.proofs.Common.{◌≡◌, [], sym, subst, arith}
 use Rattle.std.proofs.lemmas.Result.{err_from_is_err_and}
 use Rattle.parsing.specs.Grammar.{start}
-use Rattle.register.specs.declared.register.Register.{Register}
-use Rattle.register.specs.Registers.{held, More, Grew, Lacks, Put}
+use Rattle.register.specs.Registers.{held, More, Grew, Lacks}
 use Rattle.register.proofs.Growing.{same_slots, then-slots, grew_put, lacks_put}
 use Rattle.records.specs.declared.node.Node.{Node}
 use Rattle.records.specs.Orders.{by_node}
 use Rattle.records.proofs.Faith.{node_faithful}
 use Rattle.parts.proofs.Grammars.{start_is}
 use Rattle.sweep.specs.Finding.{node_at}
-use Rattle.sweep.specs.Sweeps.{MetNode, Collected, Sweep}
+use Rattle.sweep.specs.Sweeps.{MetNode, Collected}
 use Rattle.sweep.proofs.Sweeping.{first_sweep, first_short, last_sweep}
 use Rattle.sweep.proofs.nodes.put_all_nodes.Goals as goal
 
-pub returns-in-err--new : goal.returns-in-err--new
-returns-in-err--new g c =
+pub returns-in_err-_new : goal.returns-in_err-_new
+returns-in_err-_new g c =
     let gr = (g.S.StateSource.meaning c.args.source.now).grammar in
     let wf = (g.met.S.StateSource.lawful c.args.source.now).well_formed in
     let says = g.F.Fits.says c.args.spans.now in
@@ -23,7 +22,7 @@ returns-in-err--new g c =
     let b = err_from_is_err_and c.from_residual.result c.from_residual.ensures.1 in
     let lacks : Lacks by_node (λ (z : Node). z ≡ node_at (start gr) 0 n) c.args.nodes.now c.insert.new.self =
     subst (λ t. Lacks by_node (λ (z : Node). z ≡ node_at t 0 n) c.args.nodes.now c.insert.new.self) (start_is gr wf x c.right.ensures)
-    (lacks_put by_node c.args.nodes.now c.insert.new.self (node_at x 0 n) b.0 c.in-err--new.ensures) in
+    (lacks_put by_node c.args.nodes.now c.insert.new.self (node_at x 0 n) b.0 c.in_err-_new.ensures) in
     subst (λ r. Collected gr says n c.args.nodes.now c.insert.new.self r) (sym b.1)
     (lacks.same, λ none l. first_short gr wf says (g.met.F.Fits.forward c.args.spans.now) n c.args.nodes.now c.insert.new.self none lacks)
 
@@ -42,7 +41,7 @@ returns-in_err-sweep_from g c =
     let b = err_from_is_err_and c.from_residual-in_err-sweep_from.result c.from_residual-in_err-sweep_from.ensures.1 in
     let grew : Grew by_node (λ (z : Node). z ≡ node_at (start gr) 0 n) c.args.nodes.now c.insert.new.self =
     subst (λ t. Grew by_node (λ (z : Node). z ≡ node_at t 0 n) c.args.nodes.now c.insert.new.self) (start_is gr wf x c.right.ensures)
-    (grew_put by_node node_faithful c.args.nodes.now c.insert.new.self (node_at x 0 n) c.in-ok--new.-new c.in-ok--new.ensures) in
+    (grew_put by_node node_faithful c.args.nodes.now c.insert.new.self (node_at x 0 n) c.in_ok-_new._new c.in_ok-_new.ensures) in
     let same = then-slots c.args.nodes.now c.insert.new.self c.loop-i.nodes grew.same v.0 in
     subst (λ r. Collected gr says n c.args.nodes.now c.sweep_from.new.nodes r) (sym b.1) (
       then-slots c.args.nodes.now c.loop-i.nodes c.sweep_from.new.nodes same f.same,
@@ -69,7 +68,7 @@ returns g c =
     let v = c.loop-i.invariant in
     let grew : Grew by_node (λ (z : Node). z ≡ node_at (start gr) 0 n) c.args.nodes.now c.insert.new.self =
     subst (λ t. Grew by_node (λ (z : Node). z ≡ node_at t 0 n) c.args.nodes.now c.insert.new.self) (start_is gr wf x c.right.ensures)
-    (grew_put by_node node_faithful c.args.nodes.now c.insert.new.self (node_at x 0 n) c.in-ok--new.-new c.in-ok--new.ensures) in (
+    (grew_put by_node node_faithful c.args.nodes.now c.insert.new.self (node_at x 0 n) c.in_ok-_new._new c.in_ok-_new.ensures) in (
       then-slots c.args.nodes.now c.insert.new.self c.loop-i.nodes grew.same v.0,
       λ none l. last_sweep gr wf says forward n c.loop-i.i (held c.loop-i.nodes) (omega arith)
           (v.1 l (first_sweep gr wf says forward n c.args.nodes.now c.insert.new.self none grew)),

@@ -1,4 +1,4 @@
-use Rattle.std.proofs.Common.{◌≡◌, ℕ, ◌<◌, []}
+use Rattle.std.proofs.Common.{◌<◌}
 use Rattle.register.specs.Registers.{held, SameSlots}
 use Rattle.records.specs.declared.node.Node.{Node}
 use Rattle.sweep.specs.Sweeps.{Sweep}

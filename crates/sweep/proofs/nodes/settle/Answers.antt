@@ -1,10 +1,8 @@
-use Rattle.std.proofs.Common.{◌≡◌, ℕ, ◌+◌, ◌<◌, ◌≤◌, true, [], length, set, Result, sym, refl, ap, ◌∙◌, subst, arith, length-set}
+use Rattle.std.proofs.Common.{◌+◌, true, [], length, sym, ap, ◌∙◌, subst, arith, length-set}
 use Rattle.std.proofs.lemmas.Result.{err_from_is_err_and}
 use Rattle.parsing.specs.Grammar.{rule_count}
-use Rattle.register.specs.declared.register.Full.{Full}
 use Rattle.register.specs.Registers.{held, More}
 use Rattle.register.proofs.Growing.{same_slots, then-slots}
-use Rattle.records.specs.declared.node.Node.{Node}
 use Rattle.parts.specs.Parts.{PartBelow}
 use Rattle.sweep.specs.Finding.{node_at}
 use Rattle.sweep.specs.Sweeps.{MetNode, Settles, Past}

@@ -1,9 +1,9 @@
-use Rattle.std.proofs.Common.{◌≡◌, ℕ, ◌+◌, ◌<◌, [], sym, ◌∙◌, subst, arith}
+use Rattle.std.proofs.Common.{◌+◌, ◌<◌, [], sym, subst}
 use Rattle.std.proofs.lemmas.Result.{err_from_is_err_and}
 use Rattle.register.specs.Registers.{held, More}
 use Rattle.register.proofs.Growing.{same_slots, then-slots}
 use Rattle.records.specs.declared.node.Node.{Node}
-use Rattle.sweep.specs.Sweeps.{MetNode, Settles, Past}
+use Rattle.sweep.specs.Sweeps.{MetNode, Settles}
 use Rattle.sweep.proofs.Sweeping.{row_start, row_next, row_end}
 use Rattle.sweep.proofs.nodes.sweep_from.Goals as goal
 
