@@ -1,5 +1,5 @@
 -- What is written, told by derivations.
-use Rattle.std.proofs.Common.{◌≡◌, ℕ, ◌+◌, ◌-◌, ◌<◌, ◌≤◌, Bool, true, false, ◌⊎◌, ◌↔◌, List, [], ◌++◌, length, take, drop, replicate, is_err, Ok, Err, Result, Ordering, sym, refl, ap, ◌∙◌, subst, inl, inr, true≢false, arith}
+use Rattle.std.proofs.Common.{◌≡◌, ℕ, ◌-◌, ◌<◌, ◌≤◌, Bool, true, false, ◌↔◌, List, [], ◌++◌, length, take, drop, replicate, is_err, Ok, Err, Result, Ordering, sym, ap, ◌∙◌, subst, inl, inr, true≢false, arith}
 use Rattle.std.specs.Cmp.{IsTotalOrder}
 use Rattle.std.proofs.lemmas.List.{take_at, drop_at, length-take-le}
 use Rattle.parsing.specs.Grammar.{Grammar, WellFormed, Sentence}
@@ -16,10 +16,10 @@ use Rattle.sweep.specs.Sweeps.{MetNode}
 use Rattle.forest.specs.declared.gathering.Counts.{Counts}
 use Rattle.forest.specs.declared.fault.GatherFault.{GatherFault}
 use Rattle.forest.specs.declared.fault.GatherFault.TheVariants.{NoSentence, NodesShort, AlternativesShort}
-use Rattle.forest.specs.Forests.{IsNode, IsAlternative, MetRecord, Lists, Short, Blank, Gathered, Gathers, Written, Writes}
+use Rattle.forest.specs.Forests.{IsNode, IsAlternative, MetRecord, Lists, Short, Blank, Gathers, Written, Writes}
 
 -- What a register leaves in its slots when the rest is filled.
-pub lists : {X : Type 0} {R : X → X → Ordering → Type 0} (o : IsTotalOrder R) (P : X → Type 0) (blank x : X) (a b : Register X) (xs : List X) (n : ℕ)
+pub lists : {X : Type 0} {R : X → X → Ordering} (o : IsTotalOrder R) (P : X → Type 0) (blank x : X) (a b : Register X) (xs : List X) (n : ℕ)
     → xs ≡ b.slots.now → x ≡ blank → SameSlots a b → b.slots.now ≡ held a ++ replicate (room a - length (held a)) x → n ≡ length (held a)
     → Climbs o (held a) → ((z : X) → Has (held a) z → P z) → ((z : X) → P z → Has (held a) z) → Lists o P blank xs n
 lists {X} o P blank x a b xs n e f s q k up sound whole =
@@ -36,7 +36,7 @@ lists {X} o P blank x a b xs n e f s q k up sound whole =
       rest = ap (drop n) all ∙ drop_at (held a) (replicate m blank) n (sym k) ∙ ap (λ l. replicate l blank) (omega arith);
     }
 
-lists_as : {X : Type 0} {R : X → X → Ordering → Type 0} (o : IsTotalOrder R) (P Q : X → Type 0) (blank : X) (xs : List X) (n : ℕ)
+lists_as : {X : Type 0} {R : X → X → Ordering} (o : IsTotalOrder R) (P Q : X → Type 0) (blank : X) (xs : List X) (n : ℕ)
     → ((z : X) → P z ↔ Q z) → Lists o P blank xs n → Lists o Q blank xs n
 lists_as o P Q blank xs n f l = record {
   room = l.room;

@@ -1,5 +1,5 @@
 -- What the table tells, over the links of the words.
-use Rattle.std.proofs.Common.{◌≡◌, ℕ, ◌<◌, ◌≤◌, Bool, true, false, ◌↔◌, List, length, get_or, Some, sym, refl, ap, ◌∙◌, subst, inl, inr, true≢false, arith}
+use Rattle.std.proofs.Common.{◌≡◌, ℕ, ◌<◌, ◌≤◌, Bool, true, false, List, length, Some, sym, ap, ◌∙◌, inl, inr, true≢false, arith}
 use Rattle.std.proofs.lemmas.List.{get_or_default}
 use Rattle.parsing.specs.Grammar.{Nonterminal}
 use Rattle.parsing.specs.Items.{Source, Lawful}
@@ -8,7 +8,7 @@ use Rattle.parsing.proofs.Theorems.{soundness}
 use Rattle.spans.specs.Spans.{Spans, IsWord, Answers}
 use Rattle.register.specs.Registers.{Has}
 use Rattle.link_growth.specs.declared.Link.{Link}
-use Rattle.span_table.specs.Tables.{Grown, OfWord, OfLink, OfLinks, link_of}
+use Rattle.span_table.specs.Tables.{Grown, OfWord, OfLinks, link_of}
 use Rattle.forest.specs.Forests.{Holds}
 
 module _ (src : Source) (law : Lawful src) (ws : List ℕ) (ks : List Link) (few : length ws ≤ 254) (holds : Holds ks (Linked src ws))

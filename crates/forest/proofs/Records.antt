@@ -1,13 +1,12 @@
 -- The records of the alternatives that are met.
-use Rattle.std.proofs.Common.{◌≡◌, ℕ, suc, ◌+◌, ◌-◌, ◌<◌, ◌≤◌, Bool, true, List, ◌++◌, length, get_or, take, replicate, sym, refl, ap, ◌∙◌, subst, ap₂, subst₂, inl, inr, arith}
+use Rattle.std.proofs.Common.{◌≡◌, ℕ, ◌+◌, ◌-◌, ◌<◌, ◌≤◌, Bool, true, List, ◌++◌, length, get_or, take, replicate, sym, refl, ◌∙◌, subst, subst₂, inl, inr, arith}
 use Rattle.std.proofs.lemmas.List.{length-take-le, length-append, length-replicate, get_or-take, get_or_append_left, get_or-append_right, get_or-replicate, get_or_default}
 use Rattle.std.proofs.lemmas.Bool.{cases_lt}
 use Rattle.parsing.specs.Grammar.{Grammar, WellFormed, rule_count, lhs, rhs}
-use Rattle.spans.specs.Spans.{part_fits, Fitting, Met, MetAlternative}
-use Rattle.register.specs.Registers.{Has}
+use Rattle.spans.specs.Spans.{part_fits, Met}
 use Rattle.records.specs.declared.node.Node.{Node}
 use Rattle.records.specs.declared.alternative.Alternative.{Alternative}
-use Rattle.parts.specs.Parts.{Whole, Of}
+use Rattle.parts.specs.Parts.{Of}
 use Rattle.parts.proofs.Visits.{same_numbers}
 use Rattle.sweep.specs.Finding.{node_at, node_of}
 use Rattle.sweep.specs.Sweeps.{MetNode, Exactly, OfSome}

@@ -43,7 +43,7 @@ pub record IsAlternative (g : Grammar) (ws : List ℕ) (z : Alternative) : Type 
   pub uses : Uses derivation rule cuts
   pub here : z ≡ recorded rule cuts
 
-pub record Lists {X : Type 0} {R : X → X → Ordering → Type 0} (o : IsTotalOrder R) (P : X → Type 0) (blank : X) (xs : List X) (n : ℕ) : Type 0 where
+pub record Lists {X : Type 0} {R : X → X → Ordering} (o : IsTotalOrder R) (P : X → Type 0) (blank : X) (xs : List X) (n : ℕ) : Type 0 where
   pub room : n ≤ length xs
   pub order : Climbs o (take n xs)
   pub sound : (z : X) → Has (take n xs) z → P z

@@ -1,4 +1,4 @@
-use Rattle.std.proofs.Common.{◌≡◌, ℕ, ◌≤◌, Bool, true, false, ◌↔◌, List, length, replicate, sym, refl, ap, ◌∙◌, subst, ap₂, true≢false}
+use Rattle.std.proofs.Common.{◌≡◌, ℕ, Bool, true, ◌↔◌, List, length, replicate, sym, refl, ◌∙◌, ap₂, true≢false}
 use Rattle.parsing.specs.Grammar.{Sentence, WellFormed, start}
 use Rattle.parsing.specs.Items.{Source, Lawful}
 use Rattle.parsing.specs.Links.{Linked}
@@ -6,8 +6,6 @@ use Rattle.spans.specs.Spans.{Answers}
 use Rattle.spans.proofs.Reaching.{spans_tell, spans_judge}
 use Rattle.grammar.specs.Questions.{right_symbol}
 use Rattle.parts.proofs.Grammars.{start_is}
-use Rattle.records.specs.declared.node.Node.{Node}
-use Rattle.records.specs.declared.alternative.Alternative.{Alternative}
 use Rattle.records.specs.Blanks.{blank_node, blank_alternative}
 use Rattle.span_table.specs.Tables.{told}
 use Rattle.forest.proofs.Fitting.{answers}

@@ -1,9 +1,8 @@
-use Rattle.std.proofs.Common.{◌≡◌, ℕ, ◌+◌, ◌-◌, ◌<◌, ◌≤◌, List, [], ◌++◌, length, replicate, sym, refl, ap, ◌∙◌, subst, subst₂, inl, inr, arith, rules}
+use Rattle.std.proofs.Common.{◌≡◌, ◌≤◌, List, [], length, sym, ap, subst, inl, inr, arith, rules}
 use Rattle.std.proofs.lemmas.List.{length-take-le}
 use Rattle.register.specs.declared.register.Register.{Register}
-use Rattle.register.specs.Registers.{held, room, Climbs, Has, More, Lacks, Grew}
+use Rattle.register.specs.Registers.{held, room, Climbs, Has, More}
 use Rattle.register.proofs.Growing.{more_from, has_none}
-use Rattle.records.specs.declared.node.Node.{Node}
 use Rattle.records.specs.declared.alternative.Alternative.{Alternative}
 use Rattle.records.specs.Blanks.{blank_node, blank_alternative}
 use Rattle.records.specs.Orders.{by_node, by_alternative}
