@@ -9,11 +9,11 @@ use Rattle.parsing.specs.Grammar.{Grammar, rule_count}
 use Rattle.grammar_format.specs.Fields.{listed}
 use Rattle.grammar_format.proofs.Listed.{length_listed, getD_listed, listed_same, listed_more}
 use Rattle.table_format.specs.ItemSets.{Items, symbols, RightSides, FirstRow, NoStep, StepTo, ItemSet}
-use Rattle.table_format.specs.Tables.{Table, Ranged, wanted_mark}
-use Rattle.table_format.specs.Walks.{Known, blank, state_at, row_at, KnownAt, NewState, NewRow, Walked, begin, mark}
+use Rattle.table_format.specs.Tables.{Ranged, wanted_mark}
+use Rattle.table_format.specs.Walks.{Known, blank, state_at, row_at, Walked, begin, mark}
 use Rattle.table_format.proofs.Pigeons.{pigeons}
 use Rattle.table_format.proofs.Progress.{Tried, Kept, kept}
-use Rattle.table_format.proofs.Alike.{AlikeTo, walked_alike}
+use Rattle.table_format.proofs.Alike.{walked_alike}
 use Rattle.table_format.proofs.Matching.{matching}
 use Rattle.table_format.proofs.Turns.{At, at_none, at_met, at_new, at_turn}
 use Rattle.rows.specs.declared.row.Row.{Row}

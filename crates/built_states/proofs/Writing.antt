@@ -8,12 +8,11 @@ use Rattle.std.proofs.lemmas.List.{take_more, take_more_set, drop-set-lt, drop-d
 use Rattle.parsing.specs.Grammar.{rule_count, rhs}
 use Rattle.grammar_format.specs.Sheets.{wide}
 use Rattle.grammar.specs.Meaning.{meaning}
-use Rattle.grammar.specs.Writing.{Writes}
 use Rattle.grammar.proofs.Held.{held}
 use Rattle.table_format.specs.ItemSets.{symbols}
 use Rattle.table_format.specs.Tables.{Matches, wanted_mark}
 use Rattle.table_format.specs.Walks.{passes}
-use Rattle.table_format.specs.Sheets.{marks_at, ends_at, header_bytes, table_bytes}
+use Rattle.table_format.specs.Sheets.{marks_at, ends_at, header_bytes}
 use Rattle.table_format.specs.Breaches.{Checked}
 use Rattle.table_format.proofs.Grids.{Cell, cell}
 use Rattle.table_format.proofs.Sheets.{length_table_bytes, header_byte_at, step_byte_at, mark_byte_at}

@@ -4,7 +4,7 @@
 --   known_rows n ws        the states below n as the walk knows them: each in the place of its number
 --   Built g n ws ss        the n states with these rows and steps match the LR(0) item sets of g, and the walk meets them in their order
 --   Many g                 the grammar g has more than 255 LR(0) item sets
-use Rattle.std.specs.Prelude.{◌≡◌, ℕ, ◌+◌, ◌*◌, ◌<◌, ◌≤◌, List, [], length, slice_index_or}
+use Rattle.std.specs.Prelude.{◌≡◌, ℕ, ◌+◌, ◌*◌, ◌<◌, ◌≤◌, List, [], slice_index_or}
 use Rattle.parsing.specs.Grammar.{Grammar}
 use Rattle.grammar_format.specs.Fields.{listed}
 use Rattle.table_format.specs.ItemSets.{Items, ItemSet}

@@ -1,4 +1,4 @@
--- A grammar that passes the tests is well_formed.
+-- A grammar that passes the tests is well-formed.
 use Rattle.std.proofs.Common.{◌≡◌, ℕ, ◌+◌, ◌<◌, ◌≤◌, Bool, true, not, ◌&&◌, eqb, ltb, leb, List, length, get_or}
 use Rattle.std.proofs.lemmas.Bool.{and_parts, eqb-true, eq-eqb, ltb-true, leb-true, le-leb, not-true, both_ways}
 use Rattle.parsing.specs.Grammar.{Grammar, rule_count, lhs, rhs, goal, start, Nonterminal, WellFormed}

@@ -6,7 +6,7 @@
 --   row a s            the items of the row of the state s
 --   step_byte ts s X   the state that s steps to by X, or 255 where no step of ts tells one
 --   table a            the automaton as a table of states; source a, as a source of states
---   Proper a           the grammar is well_formed, and the source is lawful and answers nothing outside the ranges
+--   Proper a           the grammar is well-formed, and the source is lawful and answers nothing outside the ranges
 --   RowsAre a          the rows are the LR(0) item sets, each once and no others, so that there are as many as states, and the row of the
 --                      state 0 is the first
 --   IsStep a t         t is the step of one row to another

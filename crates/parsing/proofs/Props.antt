@@ -1,4 +1,4 @@
--- A grammar is well_formed in one way at most.
+-- A grammar is well-formed in one way at most.
 use native.Mathlib.Bridge.{le_prop}
 use native.Mathlib.Nat.{ℕ_set}
 use mathlib.Core.HLevel.{⊥_prop}

@@ -77,5 +77,5 @@ pub record WellFormed (g : Grammar) : Type 0 where
   pub start_goal : start g ≢ goal g
   pub goal_once : (r : ℕ) → r < rule_count g → lhs g r ≡ goal g → r ≡ 0
   pub goal_unused : (r d : ℕ) → r < rule_count g → d < length (rhs g r) → slice_index (rhs g r) d ≢ goal g
-  -- Only that there are such words, and not which: so a grammar is well_formed in one way at most.
+  -- Only that there are such words, and not which: so a grammar is well-formed in one way at most.
   pub productive : (X : ℕ) → Nonterminal g X → ∥ Productive g X ∥₁

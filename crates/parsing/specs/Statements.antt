@@ -78,6 +78,6 @@ abbrev pub RowsByBits : Type 0
 RowsByBits = (v w : List ℕ) → IsRow v → IsRow w
     → (v ≡ w) ↔ ((r d : ℕ) → r < 64 → d < 8 → has v r d ≡ has w r d)
 
--- Some source is lawful, over a well_formed grammar.
+-- Some source is lawful, over a well-formed grammar.
 abbrev pub Witness : Type 0
 Witness = (src : Source) × WellFormed src.grammar × Lawful src

@@ -1,5 +1,5 @@
 -- What every source of states keeps.
---   Sourced src   src is a lawful source of 1 to 255 states over a well_formed grammar, and answers none and no outside its ranges
+--   Sourced src   src is a lawful source of 1 to 255 states over a well-formed grammar, and answers none and no outside its ranges
 use Rattle.std.specs.Prelude.{◌≤◌}
 use Rattle.parsing.specs.Grammar.{WellFormed}
 use Rattle.parsing.specs.Items.{Source, Lawful}

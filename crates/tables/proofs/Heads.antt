@@ -1,14 +1,11 @@
 -- The form: what has passed leaves no row that applies.
-use Rattle.std.proofs.Common.{◌≡◌, ℕ, ◌+◌, ◌*◌, ◌<◌, ◌≤◌, List, length, get_or, None, sym, subst, inl, inr, arith}
+use Rattle.std.proofs.Common.{◌≡◌, ℕ, ◌+◌, ◌*◌, ◌<◌, ◌≤◌, List, length, get_or, inl, inr, arith}
 use Rattle.parsing.specs.Grammar.{Grammar}
-use Rattle.states.specs.Refusals.{outcome}
-use Rattle.states.specs.declared.fault.TableFault.{TableFault}
 use Rattle.table_format.specs.Sheets.{states_told, symbols_told, rules_told, marks_at, ends_at}
-use Rattle.table_format.specs.Walks.{refuses}
-use Rattle.table_format.specs.Breaches.{FormBreach, CleanTo, Clean, First, Checked, by_form, step_byte, mark_byte}
+use Rattle.table_format.specs.Breaches.{FormBreach, CleanTo, Clean, step_byte, mark_byte}
 use Rattle.table_format.proofs.Cleaning.{clean_start, clean_row, clean_end, clean_form, row_20, row_21, row_22, row_23}
 use Rattle.tables.specs.declared.header.Header.{Header}
-use Rattle.tables.specs.Heads.{Long, Counted, Placed, Told, Laid, Headed, Formed, Allowed, Barred}
+use Rattle.tables.specs.Heads.{Long, Counted, Told, Laid, Headed, Formed, Allowed, Barred}
 use Rattle.tables.specs.Faults.{Ranging}
 
 pub clean_long : (g : Grammar) (b : List ℕ) → Long b → Clean g b 21

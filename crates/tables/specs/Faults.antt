@@ -4,7 +4,7 @@
 --   Ranging b p      where no row below 23 applies, the row 23 applies to no byte before the offset p
 --   Refused g b f    the check answers f, and the bytes have not both the form and states that match the LR(0) item sets
 --   Found g b e      the finding e has the fault that the check answers, and the row of the state that it is in, if it is in one
-use Rattle.std.specs.Prelude.{◌≡◌, ℕ, List, None}
+use Rattle.std.specs.Prelude.{ℕ, List}
 use Rattle.parsing.specs.Grammar.{Grammar}
 use Rattle.states.specs.Refusals.{outcome}
 use Rattle.states.specs.declared.fault.TableFault.{TableFault}

@@ -1,5 +1,5 @@
 -- What every table holds while it exists.
-use Rattle.std.specs.Prelude.{◌≡◌, ℕ, ◌<◌, ◌≤◌, Bool, true, false, ◌&&◌, ◌≢◌, List, length, Some, None, ◌==◌, nat_eq, nat_lt}
+use Rattle.std.specs.Prelude.{◌≡◌, ℕ, ◌<◌, ◌≤◌, false, ◌&&◌, ◌≢◌, List, Some, None, ◌==◌, nat_eq, nat_lt}
 use Rattle.std.proofs.Math.Path.{sym, ap}
 use Rattle.std.proofs.Common.{subst, ◌∙◌, inl, inr, arith}
 use Rattle.std.proofs.Math.Logic.{∥∥₁_elim}
@@ -13,14 +13,14 @@ use Rattle.rows.specs.declared.row.Row.{Row}
 use Rattle.rows.proofs.Grammars.{right_sides, well_formed}
 use Rattle.states.specs.Sources.{Sourced}
 use Rattle.table_format.specs.ItemSets.{symbols}
-use Rattle.table_format.specs.Tables.{Matches, source_of, answered}
-use Rattle.table_format.specs.Sheets.{table_of, states_told, symbols_told, rules_told, marks_at, ends_at, Form}
+use Rattle.table_format.specs.Tables.{source_of, answered}
+use Rattle.table_format.specs.Sheets.{table_of, Form}
 use Rattle.table_format.proofs.Props.{matches_prop}
 use Rattle.table_format.proofs.Sources.{lawful, bounded}
 use Rattle.table_format.proofs.Sheets.{states_of}
 use Rattle.tables.specs.declared.header.Header.{Header}
 use Rattle.tables.specs.declared.table.Table.{Table}
-use Rattle.tables.specs.Heads.{Told, Laid, Formed}
+use Rattle.tables.specs.Heads.{Told, Laid}
 use Rattle.tables.specs.Lists.{row_in}
 use Rattle.tables.specs.Passing.{Passed}
 use Rattle.tables.specs.Meaning.{grammar_of, bytes, rows_of, source}

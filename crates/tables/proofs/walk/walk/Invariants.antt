@@ -1,4 +1,4 @@
-use Rattle.std.proofs.Common.{ℕ, ◌-◌, ◌<◌, ◌≤◌, length}
+use Rattle.std.proofs.Common.{◌-◌, ◌<◌, ◌≤◌, length}
 use Rattle.grammar.specs.Meaning.{meaning}
 use Rattle.table_format.specs.ItemSets.{symbols}
 use Rattle.table_format.specs.Sheets.{table_of}

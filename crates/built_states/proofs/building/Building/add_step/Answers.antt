@@ -1,4 +1,4 @@
-use Rattle.std.proofs.Common.{◌≡◌, ℕ, ◌<◌, ◌≢◌, refl, arith}
+use Rattle.std.proofs.Common.{◌≡◌, ◌<◌, refl, arith}
 use Rattle.grammar.specs.Meaning.{meaning}
 use Rattle.built_states.specs.Grammars.{symbols_few}
 use Rattle.built_states.proofs.Growing.{tried_none, met_turn, new_turn, many_turn}

@@ -1,4 +1,4 @@
-use Rattle.std.proofs.Common.{◌≡◌, ap, ◌∙◌, arith}
+use Rattle.std.proofs.Common.{◌∙◌, arith}
 use Rattle.built_states.proofs.Writing.{header_read, step_place, step_read_at, mark_cell, mark_place, mark_read_at}
 use Rattle.built_states.proofs.built.BuiltStates.sheet_byte.Goals as goal
 

@@ -1,4 +1,3 @@
-use Rattle.std.proofs.Common.{ℕ, ◌≤◌}
 use Rattle.tables.specs.Faults.{Ranging}
 use Rattle.tables.proofs.header.Header.check_bytes.Given as goal
 

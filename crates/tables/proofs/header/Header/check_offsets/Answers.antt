@@ -1,4 +1,4 @@
-use Rattle.std.proofs.Common.{◌∙◌, arith}
+use Rattle.std.proofs.Common.{arith}
 use Rattle.table_format.specs.Breaches.{by_form, steps_offset, marks_offset, uncounted}
 use Rattle.tables.proofs.Heads.{marks_told, ends_told, times}
 use Rattle.tables.proofs.header.Header.check_offsets.Goals as goal

@@ -1,4 +1,4 @@
-use Rattle.std.proofs.Common.{◌≡◌, ℕ, length}
+use Rattle.std.proofs.Common.{◌≡◌, length}
 use Rattle.tables.specs.Lists.{listed, RowsBy}
 use Rattle.tables.proofs.known.KnownStates.rows.Given as goal
 
