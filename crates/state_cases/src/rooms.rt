@@ -28,7 +28,11 @@ fn check_room(rt: &impl Abort, built: &BuiltStates, room: &mut [u8]) -> Result<(
             Ok(())
         }
         Err(fault) => {
-            assert_eq!(rt; Answer::of(fault), Refused(31, 60, 0), "in a room of {length}");
+            assert_eq!(rt;
+                Answer::of(fault),
+                Refused(31, 60, 0),
+                "in a room of {length}"
+            );
             assert!(rt; length < 60 && holds(room, &[]), "in a room of {length}");
             Ok(())
         }

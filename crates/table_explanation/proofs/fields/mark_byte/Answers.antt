@@ -1,5 +1,5 @@
 use Rattle.std.proofs.Common.{◌+◌, ◌-◌, ◌*◌, ◌^◌, min, ap, ◌∙◌, arith}
-use Rattle.table_format.specs.Sheets.{marks_at, states_told, symbols_told}
+use Rattle.table_format.specs.Sheets.{marks_at, states_told}
 use Rattle.table_explanation.proofs.Cells.{mark_at, mark_none}
 use Rattle.table_explanation.proofs.fields.mark_byte.Goals as goal
 

@@ -1,4 +1,4 @@
-use Rattle.std.proofs.Common.{◌≡◌, ◌≤◌, length, ◌∙◌, arith}
+use Rattle.std.proofs.Common.{◌≤◌, length, ◌∙◌, arith}
 use Rattle.table_inspection.proofs.Writing.{fills}
 use Rattle.table_inspection.proofs.reporting.written.Goals as goal
 

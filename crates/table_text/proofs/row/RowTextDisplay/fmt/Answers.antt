@@ -1,4 +1,4 @@
-use Rattle.std.proofs.Common.{◌≡◌, ◌-◌, true, refl, ◌∙◌, arith}
+use Rattle.std.proofs.Common.{true, refl, arith}
 use Rattle.parsing.specs.Grammar.{rule_count}
 use Rattle.grammar.specs.Meaning.{sheet}
 use Rattle.rows.specs.Rows.{items}

@@ -1,4 +1,4 @@
-use Rattle.std.proofs.Common.{◌≡◌, ◌+◌, ◌-◌, true, refl, ◌∙◌, arith}
+use Rattle.std.proofs.Common.{◌≡◌, ◌+◌, ◌-◌, true, refl, arith}
 use Rattle.grammar.specs.Meaning.{sheet}
 use Rattle.grammar.specs.Questions.{right_length}
 use Rattle.rows.specs.Rows.{items}

@@ -1,4 +1,4 @@
-use Rattle.std.proofs.Common.{◌≡◌, ℕ, ◌-◌, true, List, refl, ap, ◌∙◌, arith}
+use Rattle.std.proofs.Common.{true, refl, ap, arith}
 use Rattle.std.proofs.Output.{has_written_of_eq}
 use Rattle.grammar.specs.Meaning.{sheet}
 use Rattle.tables.specs.Meaning.{source}
