@@ -10,6 +10,6 @@ mod limits;
 #[cfg(test)]
 mod rooms;
 #[cfg(test)]
-mod rows;
+mod state_rows;
 #[cfg(test)]
-mod tables;
+mod table_sheets;

@@ -1,6 +1,6 @@
 -- The words of a key record are sound, and stand in order.
 use Rattle.std.proofs.Common.{◌≡◌, ℕ, zero, suc, ◌+◌, ◌<◌, ◌≤◌, Bool, true, false, cond, eqb, ltb, List, [], ◌∷◌, length, IfOk, Result, refl, subst, arith}
-use Rattle.std.specs.List.{AllByRecursion as All}
+use Rattle.std.specs.List.{AllByRecursion}
 use Rattle.std.proofs.lemmas.Bool.{ltb-true}
 use Rattle.words.specs.Keys.{amount_pressed, key_pressed, presses, key_coming}
 use Rattle.words.specs.Places.{Sound, Orderly}
@@ -36,7 +36,7 @@ presses_row T i zero (b ∷ xs) n j e f =
 abbrev Right : ℕ → Result Word FeedFault → Type 0
 Right T r = IfOk r (Sound T)
 
-amount_right : (T i : ℕ) (xs : List ℕ) → 1 ≤ T → All (λ b. b < 256) xs → Right T (amount_pressed i xs)
+amount_right : (T i : ℕ) (xs : List ℕ) → 1 ≤ T → AllByRecursion (λ b. b < 256) xs → Right T (amount_pressed i xs)
 amount_right T i [] k h = tt
 amount_right T i (a ∷ []) k h = tt
 amount_right T i (a ∷ (b ∷ xs)) k h = record { known = omega arith; plain = λ l. absurd (omega arith); small = omega (arith, h.0, h.1.0) }
@@ -45,18 +45,18 @@ key_right : (T i t : ℕ) (a : Bool) → ltb t T ≡ a → Right T (key_pressed 
 key_right T i t true e = simp e (record { known = ltb-true t T e; plain = λ _. refl; small = omega arith })
 key_right T i t false e = simp e tt
 
-keys_right : (T i t : ℕ) (xs : List ℕ) (a b : Bool) → 1 ≤ T → All (λ c. c < 256) xs → All (Right T) (presses T (i + 1) 2 xs) → All (Right T) (presses T (i + 1) 0 xs) → All (Right T) (cond a [] (cond b (amount_pressed i xs ∷ presses T (i + 1) 2 xs) (key_pressed T i t ∷ presses T (i + 1) 0 xs)))
+keys_right : (T i t : ℕ) (xs : List ℕ) (a b : Bool) → 1 ≤ T → AllByRecursion (λ c. c < 256) xs → AllByRecursion (Right T) (presses T (i + 1) 2 xs) → AllByRecursion (Right T) (presses T (i + 1) 0 xs) → AllByRecursion (Right T) (cond a [] (cond b (amount_pressed i xs ∷ presses T (i + 1) 2 xs) (key_pressed T i t ∷ presses T (i + 1) 0 xs)))
 keys_right T i t xs true b k h f g = tt
 keys_right T i t xs false true k h f g = (amount_right T i xs k h, f)
 keys_right T i t xs false false k h f g = (key_right T i t (ltb t T) refl, g)
 
-presses_right : (T i k : ℕ) (xs : List ℕ) → 1 ≤ T → All (λ b. b < 256) xs → All (Right T) (presses T i k xs)
+presses_right : (T i k : ℕ) (xs : List ℕ) → 1 ≤ T → AllByRecursion (λ b. b < 256) xs → AllByRecursion (Right T) (presses T i k xs)
 presses_right T i k [] l h = tt
 presses_right T i (suc k) (b ∷ xs) l h = presses_right T (i + 1) k xs l h.1
 presses_right T i zero (b ∷ xs) l h =
     keys_right T i b xs (eqb b 255) (eqb b 0) l h.1 (presses_right T (i + 1) 2 xs l h.1) (presses_right T (i + 1) 0 xs l h.1)
 
-pub keys_orderly : (T : ℕ) (xs : List ℕ) → 1 ≤ T → All (λ b. b < 256) xs → Orderly T (length xs) (key_coming T 0 xs)
+pub keys_orderly : (T : ℕ) (xs : List ℕ) → 1 ≤ T → AllByRecursion (λ b. b < 256) xs → Orderly T (length xs) (key_coming T 0 xs)
 keys_orderly T xs l h = record {
   sound = told_words (Sound T) (λ _. Unit {0}) (presses T 0 0 xs) (presses_right T 0 0 xs l h);
   placed = told_in_order (length xs) 0 (presses T 0 0 xs) (presses_row T 0 0 xs (length xs) 0 (omega arith) (omega arith));

@@ -1,6 +1,6 @@
 -- From a list of answers to the words that they tell.
 use Rattle.std.proofs.Common.{ℕ, List, [], ◌∷◌, IfSome, Ok, Err, Result, MatchResult}
-use Rattle.std.specs.List.{AllByRecursion as All}
+use Rattle.std.specs.List.{AllByRecursion}
 use Rattle.words.specs.Feeds.{told}
 use Rattle.words.specs.Places.{Spot, InOrder}
 use Rattle.words.specs.Refusals.{refusal}
@@ -20,12 +20,12 @@ told_in_order n i (Err f ∷ rs) h = h
 
 -- What holds of every answer holds of what is told.
 module _ (P : Word → Type 0) (Q : FeedFault → Type 0) where
-  pub told_words : (rs : List (Result Word FeedFault)) → All (λ r. MatchResult r P Q) rs → All P (told rs).words
+  pub told_words : (rs : List (Result Word FeedFault)) → AllByRecursion (λ r. MatchResult r P Q) rs → AllByRecursion P (told rs).words
   told_words [] h = tt
   told_words (Ok w ∷ rs) h = (h.0, told_words rs h.1)
   told_words (Err f ∷ rs) h = tt
 
-  pub told_fault : (rs : List (Result Word FeedFault)) → All (λ r. MatchResult r P Q) rs → IfSome (told rs).fault Q
+  pub told_fault : (rs : List (Result Word FeedFault)) → AllByRecursion (λ r. MatchResult r P Q) rs → IfSome (told rs).fault Q
   told_fault [] h = tt
   told_fault (Ok w ∷ rs) h = told_fault rs h.1
   told_fault (Err f ∷ rs) h = h.0

@@ -1,6 +1,6 @@
 -- The words of a text are sound, stand in order, and say what their bytes are.
 use Rattle.std.proofs.Common.{◌≡◌, ℕ, ◌≤◌, List, [], ◌∷◌, map, length, Ok, Err, Result, sym, ◌∙◌, subst, arith, MatchResult}
-use Rattle.std.specs.List.{AllByRecursion as All}
+use Rattle.std.specs.List.{AllByRecursion}
 use Rattle.std.proofs.ByRecursion.{All-weaker}
 use Rattle.grammar_format.specs.Sheets.{Sheet}
 use Rattle.words.specs.Faithful.{Spells, Blames, Faithful}
@@ -41,11 +41,11 @@ module _ (s : Sheet) (some : 1 ≤ s.grammar.terminals) (one_each : length s.spe
   right i r (Ok w) h k = (k.sound, subst (Spells s w) (there i w.from w.to r h k.from_is k.to_is) k.spells)
   right i r (Err f) h k = subst (Blames s f) (there i (refusal f).first (refusal f).second r h k.first_is k.second_is) k.blames
 
-  rights : (i : ℕ) (rs : List Run) → InRow text i rs → All (λ a. MatchResult a Right Wrong) (map (said s) rs)
+  rights : (i : ℕ) (rs : List Run) → InRow text i rs → AllByRecursion (λ a. MatchResult a Right Wrong) (map (said s) rs)
   rights i [] h = tt
   rights i (r ∷ rs) h = (right i r (said s r) h.0 (said_right s some one_each r), rights (run_end r) rs h.1)
 
-  whole : All (λ a. MatchResult a Right Wrong) (map (said s) (runs 0 text))
+  whole : AllByRecursion (λ a. MatchResult a Right Wrong) (map (said s) (runs 0 text))
   whole = rights 0 (runs 0 text) (runs_in_row text)
 
   pub text_orderly : Orderly s.grammar.terminals (length text) (text_coming s 0 text)

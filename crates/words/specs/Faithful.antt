@@ -6,7 +6,7 @@
 --   Faithful s xs c    the words and the fault of c say what stands in the text xs at their places
 use Rattle.std.specs.Prelude.{◌≡◌, ℕ, ◌<◌, ◌≤◌, true, false, List, length, IfSome, ◌≢◌}
 use Rattle.std.specs.Str.Parse.{digits_value}
-use Rattle.std.specs.List.{AllByRecursion as All}
+use Rattle.std.specs.List.{AllByRecursion}
 use Rattle.grammar_format.specs.Keeping.{spelling_of}
 use Rattle.grammar_format.specs.Sheets.{Sheet}
 use Rattle.words.specs.Feeds.{Coming}
@@ -36,5 +36,5 @@ Blames s (UnknownKey p q) bs = ⊥
 Blames s (CutAmount p q) bs = ⊥
 
 pub record Faithful (s : Sheet) (xs : List ℕ) (c : Coming) : Type 0 where
-  pub spelled : All (λ w. Spells s w (part xs w.from w.to)) c.words
+  pub spelled : AllByRecursion (λ w. Spells s w (part xs w.from w.to)) c.words
   pub blamed : IfSome c.fault (λ f. Blames s f (part xs (refusal f).first (refusal f).second))

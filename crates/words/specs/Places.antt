@@ -6,7 +6,7 @@
 --   Sound T w          the terminal of w is below T; its amount has at most five digits, and is 0 unless the terminal is 0
 --   Orderly T n c      what is coming as c is sound and stands in order within n bytes
 use Rattle.std.specs.Prelude.{◌≡◌, ℕ, ◌-◌, ◌<◌, ◌≤◌, cond, ◌&&◌, List, [], ◌∷◌, length, take, drop, Some, None, Option, nat_le}
-use Rattle.std.specs.List.{AllByRecursion as All}
+use Rattle.std.specs.List.{AllByRecursion}
 use Rattle.words.specs.Feeds.{Coming}
 use Rattle.words.specs.Refusals.{refusal}
 use Rattle.words.specs.declared.word.Word.{Word}
@@ -34,5 +34,5 @@ pub record Sound (T : ℕ) (w : Word) : Type 0 where
   pub small : w.amount < 100000
 
 pub record Orderly (T n : ℕ) (c : Coming) : Type 0 where
-  pub sound : All (Sound T) c.words
+  pub sound : AllByRecursion (Sound T) c.words
   pub placed : InOrder n 0 c.words c.fault
