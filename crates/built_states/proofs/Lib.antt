@@ -1,3 +1,4 @@
+pub mod Grammars
 pub mod Growing
 pub mod Answering
 pub mod Writing

@@ -23,7 +23,7 @@ use Rattle.built_states.specs.Built.{row_items}
 use Rattle.built_states.specs.Meaning.{table}
 use Rattle.built_states.specs.Writing.{sheet}
 use Rattle.built_states.specs.declared.built.BuiltStates.{BuiltStates}
-use Rattle.built_states.specs.Grammars.{symbols_few, right_sides}
+use Rattle.built_states.proofs.Grammars.{symbols_few, right_sides}
 
 module _ (b : BuiltStates) where
   pub few_states : b.count ≤ 255

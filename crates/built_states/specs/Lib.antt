@@ -2,4 +2,3 @@ pub mod Built
 pub mod Building
 pub mod Meaning
 pub mod Writing
-pub mod Grammars

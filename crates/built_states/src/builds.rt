@@ -52,7 +52,9 @@ impl Building {
     /// Tries the step of the state i by the symbol x. The row that is wanted is completed in the table, among the others, and becomes a new
     /// state where none of them is the same.
     fn add_step(&mut self, grammar: &Grammar, i: usize, x: usize) -> Result<(), TableFault>
-        requires { (Come (meaning grammar.now) self.old i x) × ((i < self.old.count) × (x < total (meaning grammar.now))) }
+        requires come { Come (meaning grammar.now) self.old i x }
+        requires state { i < self.old.count }
+        requires symbol { x < total (meaning grammar.now) }
         ensures cases { MatchResult result (λ _. Come (meaning grammar.now) self.new i (x + 1)) (λ e. (e ≡ TooManyStates) × Many (meaning grammar.now)) }
         ensures grows { self.old.count ≤ self.new.count }
     {
@@ -76,7 +78,8 @@ impl Building {
 
     /// Tries every step of the state i.
     fn expand(&mut self, grammar: &Grammar, i: usize) -> Result<(), TableFault>
-        requires { (Come (meaning grammar.now) self.old i 0) × (i < self.old.count) }
+        requires come { Come (meaning grammar.now) self.old i 0 }
+        requires state { i < self.old.count }
         ensures cases { MatchResult result (λ _. Come (meaning grammar.now) self.new (i + 1) 0) (λ e. (e ≡ TooManyStates) × Many (meaning grammar.now)) }
         ensures grows { self.old.count ≤ self.new.count }
     {

@@ -10,7 +10,7 @@ ghost use Rattle.table_format.proofs.Sources.{bounded};
 ghost use Rattle.grammar.specs.Meaning;
 ghost use Rattle.grammar.proofs.Held.{held};
 ghost use Rattle.built_states.specs.Built.{row_items};
-ghost use Rattle.built_states.specs.Grammars.{right_sides};
+ghost use Rattle.rows.proofs.Grammars.{right_sides};
 
 use crate::built::BuiltStates;
 use states::StateSource;

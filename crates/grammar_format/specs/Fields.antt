@@ -1,7 +1,7 @@
 -- Where the parts of a grammar sheet stand, read off any bytes, whether they keep the rules or not.
 --   number b o      the number of 16 bits at the offset o
 --   terminals b     how many terminals the header tells; likewise nonterminals, rules and symbols
---   block b r       the nine bytes of the rule r: left, right length, and right x d for the seven right symbols
+--   block b r       the nine bytes of the rule r: left, right_length, and right x d for the seven right symbols
 --   remains b t     the sheet that remains from the spelling of the terminal t on
 --   spelling b t    the bytes of that spelling
 --   sheet_of b      all of it as a sheet

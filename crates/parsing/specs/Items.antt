@@ -7,13 +7,13 @@
 --   Initial r d        (r, d) is the item (0, 0), the kernel of the first state
 --   Step src b X r d   the item (r, d) is in the kernel of the step of the state b by the symbol X
 --   Lawful src         the states of src are the LR(0) states of its grammar
-use Rattle.std.specs.Prelude.{◌≡◌, ℕ, suc, ◌<◌, Bool, true, ◌↔◌, length, Some, None, Option, slice_index_or}
+use Rattle.std.specs.Prelude.{◌≡◌, ℕ, suc, ◌<◌, Bool, true, ◌↔◌, length, Some, None, Option, slice_index}
 use Rattle.parsing.specs.Grammar.{Grammar, rule_count, lhs, rhs}
 
 pub record Next (g : Grammar) (r d X : ℕ) : Type 0 where
   pub rule_in : r < rule_count g
   pub dot_in : d < length (rhs g r)
-  pub symbol : slice_index_or (rhs g r) d 0 ≡ X
+  pub symbol : slice_index (rhs g r) d ≡ X
 
 -- The least set of items that holds I and predicts, from its start, each rule whose left symbol comes next.
 pub data Closure (g : Grammar) (I : ℕ → ℕ → Type 0) : ℕ → ℕ → Type 0 where

@@ -27,7 +27,8 @@ impl Row {
 
     /// Adds the item (rule, dot); every other item stays.
     pub(crate) fn add(&mut self, rule: usize, dot: usize)
-        requires { (rule < 64) × (dot < 8) }
+        requires rule { rule < 64 }
+        requires dot { dot < 8 }
         ensures { Adds (items self.old) rule dot (items self.new) }
     {
         self.items[rule] |= 1 << dot;

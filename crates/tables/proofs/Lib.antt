@@ -1,3 +1,5 @@
 pub mod Heads
 pub mod Cells
 pub mod Lists
+pub mod Answering
+pub mod Questions

@@ -24,7 +24,6 @@ use Rattle.tables.specs.Heads.{Told, Laid}
 use Rattle.tables.specs.Lists.{row_in}
 use Rattle.tables.specs.Passing.{Passed}
 use Rattle.tables.specs.Meaning.{grammar_of, bytes, rows_of, source}
-use Rattle.tables.specs.Answering.{laid, states_are}
 
 form_prop : (g : Grammar) (b : List ℕ) → IsProp (Form g b)
 form_prop g b x y = λ i. record {
@@ -61,18 +60,6 @@ module _ (t : Table) where
   pub held : Passed (meaning (grammar_of t)) (bytes t) t.header t.rows
   held = ∥∥₁_elim t.passed (passed_prop (meaning (grammar_of t)) (bytes t) t.header t.rows) (λ h. h)
 
-  pub held_laid : (xs : List ℕ) → xs ≡ bytes t → Laid xs t.header
-  held_laid xs e = subst (λ ys. Laid ys t.header) (sym e) (laid held.formed)
-
-  pub header_states : t.header.states ≡ (table_of (bytes t)).states
-  header_states = sym (states_are held.formed)
-
-  pub header_symbols : t.header.symbols ≡ symbols (meaning (grammar_of t))
-  header_symbols = held.formed.told.symbols_are ∙ held.formed.form.same_symbols
-
-  pub header_rules : t.header.rules ≡ rule_count (meaning (grammar_of t))
-  header_rules = held.formed.told.rules_are ∙ held.formed.form.same_rules
-
   pub sourced : Sourced (source t)
   unfolding source source_of
   sourced = record {
@@ -87,52 +74,3 @@ module _ (t : Table) where
     where
       few : (table_of (bytes t)).states ≤ 255
       few = omega (arith, states_of (bytes t), held.formed.form.few_states)
-
-  -- The questions on states.
-  module _ (s : ℕ) where
-    module _ (X : ℕ) where
-      pub next_past_states : t.header.states ≤ s → None ≡ (source t).next s X
-      unfolding source source_of
-      next_past_states h = sym (sourced.bounded.next_outside s X (inl (omega (arith, header_states))))
-
-      pub next_past_symbols : t.header.symbols ≤ X → None ≡ (source t).next s X
-      unfolding source source_of
-      next_past_symbols h = sym (sourced.bounded.next_outside s X (inr (omega (arith, header_symbols))))
-
-      module _ (b : ℕ) (h : s < t.header.states) (x : X < t.header.symbols) (e : b ≡ (table_of (bytes t)).step s X) where
-        pub next_none : b ≡ 255 → None ≡ (source t).next s X
-        unfolding source source_of
-        next_none n =
-            sym (ap (λ c. answered c ((table_of (bytes t)).step s X))
-            (and_right (nat_lt s (table_of (bytes t)).states) (nat_lt X (symbols (meaning (grammar_of t))) && nat_lt ((table_of (bytes t)).step s X) 255)
-            (and_right (nat_lt X (symbols (meaning (grammar_of t)))) (nat_lt ((table_of (bytes t)).step s X) 255)
-            (le-ltb ((table_of (bytes t)).step s X) 255 (omega arith)))))
-
-        pub next_some : b < 256 → b ≢ 255 → Some b ≡ (source t).next s X
-        unfolding source source_of
-        next_some l n =
-            sym (ap (λ c. answered c ((table_of (bytes t)).step s X))
-            (and_from (nat_lt s (table_of (bytes t)).states) (nat_lt X (symbols (meaning (grammar_of t))) && nat_lt ((table_of (bytes t)).step s X) 255)
-            (lt-ltb s (table_of (bytes t)).states (omega (arith, header_states)))
-            (and_from (nat_lt X (symbols (meaning (grammar_of t)))) (nat_lt ((table_of (bytes t)).step s X) 255)
-            (lt-ltb X (symbols (meaning (grammar_of t))) (omega (arith, header_symbols)))
-            (lt-ltb ((table_of (bytes t)).step s X) 255 (omega arith))))
-            ∙ ap Some (sym e))
-
-    module _ (r : ℕ) where
-      pub done_past_states : t.header.states ≤ s → false ≡ (source t).done s r
-      unfolding source source_of
-      done_past_states h = sym (sourced.bounded.done_outside s r (inl (omega (arith, header_states))))
-
-      pub done_past_rules : t.header.rules ≤ r → false ≡ (source t).done s r
-      unfolding source source_of
-      done_past_rules h = sym (sourced.bounded.done_outside s r (inr (omega (arith, header_rules))))
-
-      pub done_is : (b : ℕ) → s < t.header.states → r < t.header.rules → b ≡ (table_of (bytes t)).mark s r → (b == 1) ≡ (source t).done s r
-      unfolding source source_of
-      done_is b h q e =
-          ap (λ n. nat_eq n 1) e
-          ∙ sym (ap (λ c. c && (nat_lt r (rule_count (meaning (grammar_of t))) && (table_of (bytes t)).mark s r == 1))
-          (lt-ltb s (table_of (bytes t)).states (omega (arith, header_states)))
-          ∙ ap (λ c. c && (table_of (bytes t)).mark s r == 1)
-          (lt-ltb r (rule_count (meaning (grammar_of t))) (omega (arith, header_rules))))

@@ -6,4 +6,3 @@ pub mod Sheets
 pub mod Passing
 pub mod Meaning
 pub mod Held
-pub mod Answering

@@ -78,7 +78,8 @@ impl Header {
 
     /// The offsets are those of the steps and of the done marks, and the length is as counted.
     fn check_offsets(&self, sheet: &[u8]) -> Result<(), TableFault>
-        requires { (Long sheet.now) × (Told sheet.now self.now) }
+        requires long { Long sheet.now }
+        requires told { Told sheet.now self.now }
         ensures cases { MatchResult result (λ _. Placed sheet.now) (λ f. Foremost sheet.now 22 f) }
         ensures no_state { IfErr result InNone }
     {

@@ -2,7 +2,7 @@ use Rattle.std.proofs.Common.{sym, ◌∙◌, arith}
 use Rattle.grammar.specs.Meaning.{meaning}
 use Rattle.rows.specs.Rows.{items}
 use Rattle.table_format.proofs.Turns.{wanted, at_mark, at_mark_wrong}
-use Rattle.tables.specs.Answering.{laid, state_below}
+use Rattle.tables.proofs.Answering.{laid, state_below}
 use Rattle.tables.proofs.walk.try_mark.Goals as goal
 
 pub done-requires : goal.done-requires

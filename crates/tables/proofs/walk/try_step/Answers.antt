@@ -2,7 +2,7 @@ use Rattle.std.proofs.Common.{arith}
 use Rattle.grammar.specs.Meaning.{meaning}
 use Rattle.rows.specs.Rows.{items}
 use Rattle.table_format.proofs.Turns.{at_none, at_where_none, at_lacking, at_met, at_other, at_known, at_new}
-use Rattle.tables.specs.Answering.{laid, state_below, no_step_by, step_by}
+use Rattle.tables.proofs.Answering.{laid, state_below, no_step_by, step_by}
 use Rattle.tables.proofs.walk.try_step.Goals as goal
 
 pub step-byte-requires : goal.step-byte-requires

@@ -4,7 +4,7 @@ use Rattle.grammar.specs.Meaning.{meaning}
 use Rattle.rows.specs.Rows.{items}
 use Rattle.table_format.proofs.Turns.{at_turn}
 use Rattle.tables.specs.Lists.{listed, known_of}
-use Rattle.tables.specs.Answering.{begins, stays, grows, room_for, few_known}
+use Rattle.tables.proofs.Answering.{begins, stays, grows, room_for, few_known}
 use Rattle.tables.proofs.walk.walk.Goals as goal
 use Rattle.tables.proofs.walk.walk.Goals.{in-Right, in-New}
 

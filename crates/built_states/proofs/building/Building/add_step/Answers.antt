@@ -1,6 +1,6 @@
 use Rattle.std.proofs.Common.{◌≡◌, ◌<◌, refl, arith}
 use Rattle.grammar.specs.Meaning.{meaning}
-use Rattle.built_states.specs.Grammars.{symbols_few}
+use Rattle.built_states.proofs.Grammars.{symbols_few}
 use Rattle.built_states.proofs.Growing.{tried_none, met_turn, new_turn, many_turn}
 use Rattle.built_states.proofs.building.Building.add_step.Goals as goal
 use Rattle.built_states.proofs.building.Building.add_step.Goals.{then-target-slot, else-target-slot}
@@ -10,7 +10,7 @@ returns-in_default c =
     let b = c.args.self.now in
     record {
       cases =
-          tried_none (meaning c.args.grammar.now) b.count b.rows b.steps c.args.i c.args.x c.requires.0 c.requires.1.0 c.requires.1.1
+          tried_none (meaning c.args.grammar.now) b.count b.rows b.steps c.args.i c.args.x c.requires.come c.requires.state c.requires.symbol
           (symbols_few c.args.grammar.now) c.in_default.ensures;
       grows = omega arith;
     }
@@ -18,11 +18,11 @@ returns-in_default c =
 pub returns-then-target-eq255 : goal.returns-then-target-eq255
 returns-then-target-eq255 c =
     let b = c.args.self.now in
-    let e : b.count ≡ 255 = omega (arith, c.requires.0.few) in
+    let e : b.count ≡ 255 = omega (arith, c.requires.come.few) in
     record {
       cases = (
         refl,
-        many_turn (meaning c.args.grammar.now) b c.complete_at.new.self c.args.i c.args.x c.in-Some.kernel c.requires.0 c.requires.1.0 c.requires.1.1
+        many_turn (meaning c.args.grammar.now) b c.complete_at.new.self c.args.i c.args.x c.in-Some.kernel c.requires.come c.requires.state c.requires.symbol
             (symbols_few c.args.grammar.now) c.in-Some.ensures c.complete_at.ensures e (λ k h. c.place_of-target.ensures.first k (omega arith)),
       );
       grows = omega (arith, c.complete_at.ensures.count_same);
@@ -36,7 +36,7 @@ returns c =
     elim c.if-target-slot.branch [
       | then-target-slot w ↦
           let t =
-          new_turn g b d c.args.i c.args.x c.in-Some.kernel c.requires.0 c.requires.1.0 c.requires.1.1 (symbols_few c.args.grammar.now)
+          new_turn g b d c.args.i c.args.x c.in-Some.kernel c.requires.come c.requires.state c.requires.symbol (symbols_few c.args.grammar.now)
           c.in-Some.ensures c.complete_at.ensures c.if-target-slot.self c.place_of-target.result w.if-target-slot.true c.if-target-eq255.false
           c.place_of-target.ensures.first w.self-is
           in
@@ -44,7 +44,7 @@ returns c =
       | else-target-slot w ↦
           let h : c.place_of-target.result < b.count = omega (arith, c.place_of-target.ensures.within, w.if-target-slot.false) in
           let t =
-          met_turn g b d c.args.i c.args.x c.in-Some.kernel c.requires.0 c.requires.1.0 c.requires.1.1 (symbols_few c.args.grammar.now)
+          met_turn g b d c.args.i c.args.x c.in-Some.kernel c.requires.come c.requires.state c.requires.symbol (symbols_few c.args.grammar.now)
           c.in-Some.ensures c.complete_at.ensures c.if-target-slot.self c.place_of-target.result h
           c.place_of-target.ensures.same w.self-is
           in

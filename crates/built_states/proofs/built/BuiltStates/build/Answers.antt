@@ -1,6 +1,6 @@
 use Rattle.std.proofs.Common.{refl}
 use Rattle.grammar.specs.Meaning.{meaning}
-use Rattle.built_states.specs.Grammars.{right_sides}
+use Rattle.built_states.proofs.Grammars.{right_sides}
 use Rattle.table_format.proofs.Counting.{set_count}
 use Rattle.built_states.proofs.Growing.{finished, not_many}
 use Rattle.built_states.proofs.built.BuiltStates.build.Goals as goal

@@ -3,7 +3,7 @@ use Rattle.parsing.specs.Grammar.{rule_count}
 use Rattle.grammar.specs.Meaning.{meaning}
 use Rattle.table_format.specs.ItemSets.{symbols}
 use Rattle.table_format.specs.Sheets.{marks_at, ends_at}
-use Rattle.built_states.specs.Grammars.{symbols_few}
+use Rattle.built_states.proofs.Grammars.{symbols_few}
 use Rattle.built_states.proofs.Writing.{few_states, rules_few, sheet_length, wide_before}
 use Rattle.built_states.proofs.built.BuiltStates.header.Goals as goal
 

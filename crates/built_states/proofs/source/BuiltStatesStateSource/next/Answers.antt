@@ -3,7 +3,7 @@ use Rattle.grammar.specs.Meaning.{meaning}
 use Rattle.built_states.specs.Built.{row_items}
 use Rattle.built_states.specs.Meaning.{table}
 use Rattle.built_states.proofs.Answering.{next_past_states, next_past_symbols, next_none, next_some, step_read}
-use Rattle.built_states.specs.Grammars.{symbols_few}
+use Rattle.built_states.proofs.Grammars.{symbols_few}
 use Rattle.built_states.proofs.source.BuiltStatesStateSource.next.Goals as goal
 
 pub returns-then-state-states : goal.returns-then-state-states

@@ -9,7 +9,7 @@ use Rattle.rows.proofs.row.Row.predict.Goals as goal
 use Rattle.rows.proofs.row.Row.predict.Goals.{then-has+then-not-holds, else-has, else-has-via-then-has+else-not-holds, else-has-via-else-has}
 
 pub add-requires : goal.add-requires
-add-requires c = (omega (arith, few_rules c.args.grammar.now), omega arith)
+add-requires c = record { rule = omega (arith, few_rules c.args.grammar.now); dot = omega arith }
 
 pub loop-rule-init : goal.loop-rule-init
 loop-rule-init c = first_turn (meaning c.args.grammar.now) (items c.args.self.now) (member c.args.next.now) c.requires

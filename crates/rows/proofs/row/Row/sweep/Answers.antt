@@ -11,7 +11,7 @@ use Rattle.rows.proofs.row.Row.sweep.Goals.{then-holds+then-from-symbol, else-ho
 pub add-requires : goal.add-requires
 add-requires c =
     let k = c.args.grammar.now in
-    (omega (arith, few_rules k), omega (arith, length_is k c.args.rule c.requires, short k c.args.rule c.requires))
+    record { rule = omega (arith, few_rules k); dot = omega (arith, length_is k c.args.rule c.requires, short k c.args.rule c.requires) }
 
 pub loop-dot-preserved : goal.loop-dot-preserved
 loop-dot-preserved c =

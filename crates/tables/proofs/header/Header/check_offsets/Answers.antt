@@ -9,8 +9,8 @@ returns-then-number-ne12-clause-cases c g k =
 
 pub returns-then-number-marks-clause-cases : goal.returns-then-number-marks-clause-cases
 returns-then-number-marks-clause-cases c g k =
-    by_form (record { applies = marks_offset (λ e. c.if-number-marks.true (omega (arith, marks_told c.requires.1))); before = k })
+    by_form (record { applies = marks_offset (λ e. c.if-number-marks.true (omega (arith, marks_told c.requires.told))); before = k })
 
 pub returns-then-sheet-marks-clause-cases : goal.returns-then-sheet-marks-clause-cases
 returns-then-sheet-marks-clause-cases c g k =
-    by_form (record { applies = uncounted (λ e. c.if-sheet-marks.true (omega (arith, ends_told c.requires.1, times c.from.ensures c.from-2.ensures))); before = k })
+    by_form (record { applies = uncounted (λ e. c.if-sheet-marks.true (omega (arith, ends_told c.requires.told, times c.from.ensures c.from-2.ensures))); before = k })

@@ -1,6 +1,6 @@
 use Rattle.std.proofs.Common.{ℕ, List, ap, ◌∙◌}
 use Rattle.table_format.specs.Sheets.{table_of}
-use Rattle.tables.specs.Held.{held_laid, done_past_states, done_past_rules, done_is}
+use Rattle.tables.proofs.Questions.{held_laid, done_past_states, done_past_rules, done_is}
 use Rattle.tables.proofs.source.TableStateSource.done.Goals as goal
 
 pub returns-then-state-header : goal.returns-then-state-header

@@ -1,6 +1,6 @@
 use Rattle.std.proofs.Common.{ℕ, List, ap, ◌∙◌}
 use Rattle.table_format.specs.Sheets.{table_of}
-use Rattle.tables.specs.Held.{held_laid, next_past_states, next_past_symbols, next_none, next_some}
+use Rattle.tables.proofs.Questions.{held_laid, next_past_states, next_past_symbols, next_none, next_some}
 use Rattle.tables.proofs.source.TableStateSource.next.Goals as goal
 
 pub returns-then-state-header : goal.returns-then-state-header

@@ -1,7 +1,7 @@
 use Rattle.std.proofs.Common.{refl}
 use Rattle.rows.proofs.Grammars.{right_sides, few_symbols, few_rules}
 use Rattle.std.proofs.lemmas.Result.{err_from_is_err_and}
-use Rattle.tables.specs.Answering.{form_found, walk_found, unreached, apart, walk_passes, passed, passed_over, short}
+use Rattle.tables.proofs.Answering.{form_found, walk_found, unreached, apart, walk_passes, passed, passed_over, short}
 use Rattle.tables.proofs.table.Table.examine.Goals as goal
 
 pub returns-in_err-header : goal.returns-in_err-header
