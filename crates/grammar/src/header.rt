@@ -39,7 +39,9 @@ fn check_length(sheet: &[u8]) -> Result<(), GrammarFault>
 
 /// The count at an offset, which lies in its range.
 fn count(sheet: &[u8], at: usize, low: u8, high: u8) -> Result<u8, GrammarFault>
-    requires { (Long sheet.now) × ((at < 11) × ((Outside (told sheet.now at) low high → Breach sheet.now 11 0))) }
+    requires long { Long sheet.now }
+    requires place { at < 11 }
+    requires breach { Outside (told sheet.now at) low high → Breach sheet.now 11 0 }
     ensures { MatchResult result (λ n. (n ≡ told sheet.now at) × (low ≤ n) × (n ≤ high)) (λ e. FirstFault sheet.now e) }
 {
     let count = number(sheet, at);
@@ -54,7 +56,8 @@ fn count(sheet: &[u8], at: usize, low: u8, high: u8) -> Result<u8, GrammarFault>
 
 /// The offsets are those of the rules and of the spellings, and the rules end within the sheet.
 fn check_offsets(sheet: &[u8]) -> Result<(), GrammarFault>
-    requires { (Long sheet.now) × (Counted sheet.now) }
+    requires long { Long sheet.now }
+    requires counted { Counted sheet.now }
     ensures { MatchResult result (λ _. Placed sheet.now) (λ e. FirstFault sheet.now e) }
 {
     let end = 12 + 9 * number(sheet, 6);

@@ -54,7 +54,8 @@ fn mark_terminals(terminals: u8) -> [bool; 64]
 
 /// The marks of the symbols that derive some list of terminals.
 fn productive(rules: &[Rule], terminals: u8) -> [bool; 64]
-    requires { (terminals ≤ 40) × (((r : ℕ) → r < length rules.now → Ranged (rule_at rules.now r))) }
+    requires few_terminals { terminals ≤ 40 }
+    requires ranged { (r : ℕ) → r < length rules.now → Ranged (rule_at rules.now r) }
     ensures { (N X : ℕ) → MatchBool (marked result X) (Productive (grammar_from terminals N rules.now) X) (Productive (grammar_from terminals N rules.now) X → ⊥) }
 {
     let mut marks = mark_terminals(terminals);
@@ -64,7 +65,9 @@ fn productive(rules: &[Rule], terminals: u8) -> [bool; 64]
 
 /// The first nonterminal that derives no list of terminals.
 pub(crate) fn first_unproductive(rules: &[Rule], terminals: u8, nonterminals: u8) -> Option<usize>
-    requires { (terminals ≤ 40) × ((nonterminals ≤ 24) × (((r : ℕ) → r < length rules.now → Ranged (rule_at rules.now r)))) }
+    requires few_terminals { terminals ≤ 40 }
+    requires few_nonterminals { nonterminals ≤ 24 }
+    requires ranged { (r : ℕ) → r < length rules.now → Ranged (rule_at rules.now r) }
     ensures { FirstOf terminals (terminals + nonterminals) (λ X. Productive (grammar_from terminals nonterminals rules.now) X → ⊥) result }
 {
     let marks = productive(rules, terminals);

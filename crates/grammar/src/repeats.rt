@@ -18,7 +18,8 @@ impl Spelling {
 
 /// Whether an earlier terminal is spelled like the terminal t.
 fn is_repeated(spellings: &[Spelling], t: usize) -> bool
-    requires { (t < length spellings.now) × (((k : ℕ) → k < length spellings.now → Fitted (spelling_at spellings.now k))) }
+    requires place { t < length spellings.now }
+    requires fitted { (k : ℕ) → k < length spellings.now → Fitted (spelling_at spellings.now k) }
     ensures { MatchBool result (Repeated spellings.now t) (Repeated spellings.now t → ⊥) }
 {
     for u in 0..t {

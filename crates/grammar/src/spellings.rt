@@ -94,7 +94,8 @@ impl Spelling {
 
 /// The spellings of the sheet, one for each terminal.
 pub(crate) fn read_spellings(sheet: &[u8], header: Header) -> Result<[Spelling; 40], GrammarFault>
-    requires { (Headed sheet.now header) × (Clean sheet.now 15) }
+    requires headed { Headed sheet.now header }
+    requires clean { Clean sheet.now 15 }
     ensures { MatchResult result (λ ws. SpellingsRead sheet.now ws) (λ e. FirstFault sheet.now e) }
 {
     let terminals = usize::from(header.terminals);

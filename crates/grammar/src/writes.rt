@@ -39,7 +39,8 @@ fn put(room: &mut [u8], at: usize, bytes: &[u8])
 
 /// Puts six numbers at the front of the room.
 fn put_numbers(room: &mut [u8], numbers: [usize; 6])
-    requires { (12 ≤ length room.old) × (((k : ℕ) → k < 6 → slice_index numbers k < 65536)) }
+    requires space { 12 ≤ length room.old }
+    requires small { (k : ℕ) → k < 6 → slice_index numbers k < 65536 }
     ensures { Put room.old 0 (flat_map halves numbers) room.new }
 {
     for k in 0..6 {
@@ -50,7 +51,8 @@ fn put_numbers(room: &mut [u8], numbers: [usize; 6])
 impl Spelling {
     /// Puts the length of the spelling and its bytes from an offset on, and answers the offset behind them.
     fn put(&self, room: &mut [u8], at: usize) -> usize
-        requires { (Fitted self.now) × (at + length (spelling_piece self.now) ≤ length room.old) }
+        requires fitted { Fitted self.now }
+        requires space { at + length (spelling_piece self.now) ≤ length room.old }
         ensures next { result ≡ at + length (spelling_piece self.now) }
         ensures put { Put room.old at (spelling_piece self.now) room.new }
     {

@@ -12,7 +12,7 @@ loop-init c = (
 pub returns : goal.returns
 returns c =
     let last = c.loop-test.ensures in
-    λ N. marks_tell c.args.terminals N c.args.rules.now c.spread.new.marks c.requires.1
+    λ N. marks_tell c.args.terminals N c.args.rules.now c.spread.new.marks c.requires.ranged
     (λ t h. last.within t (c.loop.invariant.0 t (c.mark_terminals-marks.ensures t ∙ lt-ltb t c.args.terminals h)))
     (last.sound c.args.terminals N (c.loop.invariant.1 N))
     last.cases.1

@@ -25,7 +25,10 @@ read_spellings-requires c =
     let head = c.in_ok-header.ensures in
     let n = c.from.result - 0 in
     let e : n ≡ rules c.args.sheet.now = omega (arith, head.rules_are) in
-    (head, goal_clean head c.in_ok-rules.ensures n e c.in_ok-header.header.terminals head.terminals_are c.in_default.ensures)
+    record {
+      headed = head;
+      clean = goal_clean head c.in_ok-rules.ensures n e c.in_ok-header.header.terminals head.terminals_are c.in_default.ensures;
+    }
 
 pub first_repeated-requires : goal.first_repeated-requires
 first_repeated-requires c =

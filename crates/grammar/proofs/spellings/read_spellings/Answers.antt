@@ -15,8 +15,8 @@ loop-t-init c = (
   refl,
   (λ k h. absurd (omega arith)),
   (λ k h. absurd (omega arith)),
-  remains_first c.args.sheet.now c.from.result (c.from.ensures ∙ c.requires.0.rules_are),
-  c.requires.1,
+  remains_first c.args.sheet.now c.from.result (c.from.ensures ∙ c.requires.headed.rules_are),
+  c.requires.clean,
 )
 
 pub returns-in_default : goal.returns-in_default
@@ -59,7 +59,7 @@ returns-then-not-is_empty c =
     let e : c.loop-t.t ≡ c.from-terminals.result = omega arith in
     record {
       applies =
-          over_here b c.from-terminals.result z (c.from-terminals.ensures ∙ c.requires.0.terminals_are)
+          over_here b c.from-terminals.result z (c.from-terminals.ensures ∙ c.requires.headed.terminals_are)
           (c.loop-t.invariant.3 ∙ ap (remains b) e) (omega (arith, eqb-false (length z) 0 (sym c.if-not-is_empty.ensures)));
       before = subst (CleanTo b 15) e c.loop-t.invariant.4;
     }

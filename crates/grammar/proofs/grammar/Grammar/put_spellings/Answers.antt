@@ -12,10 +12,11 @@ loop-t-init c = (put_nothing c.args.room.now c.args.start, sym (add-zero c.args.
 
 pub put-at-requires : goal.put-at-requires
 put-at-requires c =
-    let g = c.args.self.now in (
-      (held g).fitted c.loop-t.t (omega arith),
-      omega (arith, spelling_room g c.loop-t.t (omega arith), c.loop-t.invariant.1),
-    )
+    let g = c.args.self.now in
+    record {
+      fitted = (held g).fitted c.loop-t.t (omega arith);
+      space = omega (arith, spelling_room g c.loop-t.t (omega arith), c.loop-t.invariant.1);
+    }
 
 pub loop-t-preserved : goal.loop-t-preserved
 loop-t-preserved c =

@@ -16,15 +16,14 @@ first_unproductive-requires c =
     let read = c.in_ok-header.ensures in
     let head = read.headed in
     let n = c.from.result - 0 in
-    let e : n ≡ rules c.args.sheet.now = omega (arith, head.rules_are) in (
-      omega (arith, head.terminals_are, head.counted.few_terminals),
-      (
-        omega (arith, head.nonterminals_are, head.counted.few_nonterminals),
-        λ r h.
-            let l : r < rules c.args.sheet.now = omega (arith, rules_front head read.rules_read n e) in
-            subst Ranged (sym (rule_front head read.rules_read n e r l)) (ranged_at head read.rules_read r l),
-      ),
-    )
+    let e : n ≡ rules c.args.sheet.now = omega (arith, head.rules_are) in
+    record {
+      few_terminals = omega (arith, head.terminals_are, head.counted.few_terminals);
+      few_nonterminals = omega (arith, head.nonterminals_are, head.counted.few_nonterminals);
+      ranged = λ r h.
+          let l : r < rules c.args.sheet.now = omega (arith, rules_front head read.rules_read n e) in
+          subst Ranged (sym (rule_front head read.rules_read n e r l)) (ranged_at head read.rules_read r l);
+    }
 
 pub returns-in-Some : goal.returns-in-Some
 returns-in-Some c =

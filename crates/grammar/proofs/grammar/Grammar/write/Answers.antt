@@ -6,11 +6,13 @@ use Rattle.grammar.proofs.grammar.Grammar.write.Goals as goal
 
 pub put_numbers-requires : goal.put_numbers-requires
 put_numbers-requires c =
-    let g = c.args.self.now in (
-      omega (arith, size_is g, c.sheet_len-need.ensures.value),
-      numbers_small (omega (arith, c.sheet_len-need.ensures.bound)) (omega (arith, g.few_terminals)) (omega (arith, g.few_nonterminals))
-          (omega (arith, g.few_rules)) (omega (arith, g.few_rules)),
-    )
+    let g = c.args.self.now in
+    record {
+      space = omega (arith, size_is g, c.sheet_len-need.ensures.value);
+      small =
+          numbers_small (omega (arith, c.sheet_len-need.ensures.bound)) (omega (arith, g.few_terminals)) (omega (arith, g.few_nonterminals))
+          (omega (arith, g.few_rules)) (omega (arith, g.few_rules));
+    }
 
 pub put_rules-requires : goal.put_rules-requires
 put_rules-requires c = omega (arith, size_is c.args.self.now, c.sheet_len-need.ensures.value)

@@ -9,6 +9,6 @@ returns c =
     record {
       next = omega arith;
       put =
-          put_piece c.args.self.now c.requires.0 c.args.room.now c.put.new.room c.put-2.new.room c.letters-letters.result.now c.args.at
+          put_piece c.args.self.now c.requires.fitted c.args.room.now c.put.new.room c.put-2.new.room c.letters-letters.result.now c.args.at
           (omega arith) c.letters-letters.ensures c.put.ensures c.put-2.ensures;
     }
