@@ -23,7 +23,8 @@ pub(crate) fn are_digits(bytes: &[u8]) -> bool
 
 /// The amount that one to five digits write.
 pub(crate) fn amount(digits: &[u8]) -> u32
-    requires { (all_digits digits.now ≡ true) × (length digits.now ≤ 5) }
+    requires decimal { all_digits digits.now ≡ true }
+    requires few { length digits.now ≤ 5 }
     ensures { result ≡ digits_value 10 digits.now }
 {
     let mut amount = 0;

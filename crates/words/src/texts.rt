@@ -23,7 +23,8 @@ pub struct TextFeed<'g, 't> {
 
 /// What the run from a place up to another says.
 fn read_run(grammar: &Grammar, text: &[u8], from: usize, to: usize) -> Result<Word, FeedFault>
-    requires { (from < to) × (to ≤ length text.now) }
+    requires nonempty { from < to }
+    requires within { to ≤ length text.now }
     ensures { result ≡ said (sheet grammar.now) (record { from = from; bytes = part text.now from to }) }
 {
     let bytes = &text[from..to];

@@ -17,7 +17,7 @@ read_run-requires c =
     let i = c.run_start-from.result in
     let h : i < length xs = omega (arith, c.run_start-from.ensures.within) in
     let b = c.run_start-from.ensures.begins h in
-    (omega (arith, first_run_some xs i h b.0 b.1, c.run_end-to.ensures.value), c.run_end-to.ensures.within)
+    record { nonempty = omega (arith, first_run_some xs i h b.0 b.1, c.run_end-to.ensures.value); within = c.run_end-to.ensures.within }
 
 pub returns-in_err-word : goal.returns-in_err-word
 returns-in_err-word c =
