@@ -12,7 +12,7 @@ fn check_rooms(rt: &impl Abort, sheet: &[u8]) {
         } else {
             Read
         };
-        assert_eq!(rt; answer_in(sheet, length), answer, "{}", length);
+        assert_eq!(rt; answer_in(sheet, length), answer, "{length}");
     }
 }
 
