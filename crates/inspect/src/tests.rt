@@ -130,7 +130,7 @@ fn refuses_and_explains(rt: HostRuntime) -> Result<(), Fail> {
     } in CASES {
         let text = report(rt.alloc(), &changed(at, bytes))?;
         let begins = format!(in rt.alloc(); "{line}\n{finding}")?;
-        assert!(rt; text.as_str().starts_with(begins.as_str()), "{}", line);
+        assert!(rt; text.as_str().starts_with(begins.as_str()), "{line}");
     }
     Ok(())
 }
