@@ -60,20 +60,12 @@ fn check_source<S: StateSource>(rt: &impl Abort, source: &S) {
                 None => 255,
             };
             let expected = if target == 255 { None } else { Some(target) };
-            assert_eq!(rt;
-                source.next(state, symbol),
-                expected,
-                "{}; {}",
-                state,
-                symbol
-            );
+            assert_eq!(rt; source.next(state, symbol), expected, "{state}; {symbol}");
             let done = P_DONE.get(usize::from(state)).copied().unwrap_or(None);
             assert_eq!(rt;
                 source.done(state, symbol),
                 done == Some(symbol),
-                "{}; {}",
-                state,
-                symbol
+                "{state}; {symbol}"
             );
         }
     }

@@ -123,7 +123,7 @@ fn a_wrong_byte_is_told_with_its_places(rt: HostRuntime) -> Result<(), Fail> {
         let mut sheet = P_TABLE;
         assert!(rt; offset < 60);
         sheet[offset] = byte;
-        assert_eq!(rt; Answer::to(&grammar, &sheet), answer, "{}", offset);
+        assert_eq!(rt; Answer::to(&grammar, &sheet), answer, "{offset}");
     }
     Ok(())
 }
@@ -144,8 +144,7 @@ fn a_sheet_that_is_cut_short_is_refused(rt: HostRuntime) -> Result<(), Fail> {
         assert_eq!(rt;
             Answer::to(&grammar, &P_TABLE[0..length]),
             Refused(20, 0, 0),
-            "{}",
-            length
+            "{length}"
         );
     }
     Ok(())
