@@ -5,6 +5,7 @@ use anyhow::anyhow;
 use built_states::BuiltStates;
 use grammar::Grammar;
 use states::StateSource;
+use std::str::FromStr;
 use std::{env, fs};
 use tables::Table;
 
@@ -17,21 +18,30 @@ enum Step {
     Check,
 }
 
+impl FromStr for Step {
+    type Err = anyhow::Error;
+
+    fn from_str(word: &str) -> anyhow::Result<Step> {
+        match word {
+            "read" => Ok(Step::Read),
+            "build" => Ok(Step::Build),
+            "write" => Ok(Step::Write),
+            "check" => Ok(Step::Check),
+            _ => Err(anyhow!("the argument is read, build, write or check")),
+        }
+    }
+}
+
 /// The step that the first argument names; without one, the last.
 fn last_step(rt: &HostRuntime) -> anyhow::Result<Step> {
-    let Some(word) = env::args(rt)?.nth(1) else {
-        return Ok(Step::Check);
-    };
-    match word.as_str() {
-        "read" => Ok(Step::Read),
-        "build" => Ok(Step::Build),
-        "write" => Ok(Step::Write),
-        "check" => Ok(Step::Check),
-        _ => Err(anyhow!("the argument is read, build, write or check")),
+    match env::args(rt)?.nth(1) {
+        Some(word) => word.as_str().parse(),
+        None => Ok(Step::Check),
     }
 }
 
 /// The first of these steps is done already.
+// By hand: each step works on what the one before it made, so no step can be called without those before it.
 fn run(rt: &HostRuntime, grammar: &Grammar, last: Step) -> anyhow::Result<()> {
     let rules = grammar.rules();
     println!(rt; "rules {rules}")?;

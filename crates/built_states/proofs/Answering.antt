@@ -1,10 +1,10 @@
 -- What a built source answers.
-use Rattle.std.proofs.Common.{◌≡◌, ℕ, ◌+◌, ◌*◌, ◌<◌, ◌≤◌, Bool, true, false, cond, ◌&&◌, eqb, ltb, List, length, get_or, Some, None, refl, ap, ◌∙◌, ap₂}
+use Rattle.std.proofs.Common.{◌≡◌, ℕ, ◌<◌, ◌≤◌, Bool, true, false, cond, ◌&&◌, eqb, ltb, Some, None, Option, refl, sym, ap, ◌∙◌, arith}
 use Rattle.std.proofs.lemmas.Bool.{le-ltb, lt-ltb}
-use Rattle.std.proofs.lemmas.List.{get_or_default}
 use Rattle.parsing.specs.Grammar.{Grammar, rule_count}
 use Rattle.table_format.specs.ItemSets.{Items, symbols}
 use Rattle.table_format.specs.Tables.{Table, source_of}
+use Rattle.built_states.specs.Built.{step_byte}
 
 module _ (g : Grammar) (t : Table) (rows : ℕ → Items) where
   pub next_past_states : (s X : ℕ) → t.states ≤ s → None ≡ (source_of g t rows).next s X
@@ -35,6 +35,8 @@ module _ (g : Grammar) (t : Table) (rows : ℕ → Items) where
       told true = refl
       told false = refl
 
--- A step as code reads it.
-pub step_read : (ss : List ℕ) (s X a b : ℕ) → a ≡ s → b ≡ X → s * 64 + X < length ss → get_or ss (a * 64 + b) 0 ≡ get_or ss (s * 64 + X) 255
-step_read ss s X a b p q h = ap₂ (λ (x y : ℕ). get_or ss (x * 64 + y) 0) p q ∙ get_or_default ss (s * 64 + X) 0 255 h
+-- A step as it is kept.
+pub next_is : (g : Grammar) (t : Table) (rows : ℕ → Items) (s X : ℕ) (o : Option ℕ) → s < t.states → X < symbols g → t.step s X ≡ step_byte o
+    → ((u : ℕ) → o ≡ Some u → u < 255) → o ≡ (source_of g t rows).next s X
+next_is g t rows s X None h k e f = next_none g t rows s X h k e
+next_is g t rows s X (Some u) h k e f = ap Some (sym e) ∙ next_some g t rows s X h k (omega (arith, e, f u refl))

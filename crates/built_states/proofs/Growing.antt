@@ -1,10 +1,10 @@
 -- How the walk over a table goes on while the table is built.
-use Rattle.std.proofs.Common.{◌≡◌, ℕ, zero, suc, ◌+◌, ◌*◌, ◌<◌, ◌≤◌, ◌≢◌, List, [], ◌∷◌, ◌++◌, length, get_or, set, replicate, sym, refl, ap, ◌∙◌, subst, subst₂, inl, inr, arith}
+use Rattle.std.proofs.Common.{◌≡◌, ℕ, zero, suc, ◌+◌, ◌<◌, ◌≤◌, ◌≢◌, List, [], ◌∷◌, ◌++◌, length, Some, None, Option, get_or, set, replicate, sym, refl, ap, ◌∙◌, subst, subst₂, ap₂, inl, inr, arith}
 use mathlib.Core.Path.{subst₃}
 use mathlib.Core.HLevel.{⊥_prop}
 use mathlib.Core.Logic.{∥∥₁_elim}
-use Rattle.std.proofs.lemmas.Bool.{cases_eq}
-use Rattle.std.proofs.lemmas.List.{length-replicate, length-set, get_or-set_same, get_or-set_other}
+use Rattle.std.proofs.lemmas.Bool.{cases_eq, cases_lt}
+use Rattle.std.proofs.lemmas.List.{length-replicate, length-set, get_or-set_same, get_or-set_other, get_or-replicate, get_or_past}
 use Rattle.parsing.specs.Grammar.{Grammar, rule_count}
 use Rattle.grammar_format.specs.Fields.{listed}
 use Rattle.grammar_format.proofs.Listed.{length_listed, getD_listed, listed_same, listed_more}
@@ -21,14 +21,60 @@ use Rattle.rows.specs.Rows.{items}
 use Rattle.rows.specs.Changes.{Kernel}
 use Rattle.rows.proofs.Stepping.{step_row}
 use Rattle.built_states.specs.declared.building.Building.{Building}
-use Rattle.built_states.specs.Built.{row_items, built_table, known_rows, Built, ManyRows, Many}
-use Rattle.built_states.specs.Building.{table_so_far, CompletedAt, Come}
+use Rattle.built_states.specs.Built.{row_items, entry, step_byte, built_table, Stepped, known_rows, Built, ManyRows, Many}
+use Rattle.built_states.specs.Building.{table_so_far, Roomy, CompletedAt, Come}
 
--- A room of one value has it everywhere.
-all_same : (n k : ℕ) → ◌≡◌ {A = ℕ} (get_or (replicate n 255) k 255) 255
-all_same zero k = refl
-all_same (suc n) zero = refl
-all_same (suc n) (suc k) = all_same n k
+-- The steps with that of the state s by the symbol X changed to o.
+abbrev pub put : List (List (Option ℕ)) → ℕ → ℕ → Option ℕ → List (List (Option ℕ))
+put ss s X o = set ss s (set (get_or ss s []) X o)
+
+module _ (ss : List (List (Option ℕ))) (room : Roomy ss) (s X : ℕ) (o : Option ℕ) (h : s < 255) (k : X < 64) where
+  here_in : s < length ss
+  here_in = omega (arith, room.states)
+
+  row_put : get_or (put ss s X o) s [] ≡ set (get_or ss s []) X o
+  row_put = get_or-set_same ss s (set (get_or ss s []) X o) [] here_in
+
+  pub entry_same : entry (put ss s X o) s X ≡ o
+  entry_same = ap (λ (xs : List (Option ℕ)). get_or xs X None) row_put ∙ get_or-set_same (get_or ss s []) X o None (omega (arith, room.symbols s h))
+
+  pub entry_other : (j y : ℕ) → (j ≡ s → y ≢ X) → entry (put ss s X o) j y ≡ entry ss j y
+  entry_other j y n =
+      elim (cases_eq j s) [
+        | inl e ↦
+            ap (λ (i : ℕ). entry (put ss s X o) i y) e
+            ∙ ap (λ (xs : List (Option ℕ)). get_or xs y None) row_put
+            ∙ get_or-set_other (get_or ss s []) X y o None (n e)
+            ∙ sym (ap (λ (i : ℕ). entry ss i y) e)
+        | inr d ↦ ap (λ (xs : List (Option ℕ)). get_or xs y None) (get_or-set_other ss s j (set (get_or ss s []) X o) [] d)
+      ]
+
+  pub roomy_put : Roomy (put ss s X o)
+  roomy_put = record { states = simp length-set room.states; symbols = kept_long }
+    where
+      kept_long : (j : ℕ) → j < 255 → length (get_or (put ss s X o) j []) ≡ 64
+      kept_long j l =
+          elim (cases_eq j s) [
+            | inl e ↦
+                ap (λ (i : ℕ). length (get_or (put ss s X o) i [])) e ∙ ap length row_put ∙ length-set (get_or ss s []) X o ∙ room.symbols s h
+            | inr d ↦ ap length (get_or-set_other ss s j (set (get_or ss s []) X o) [] d) ∙ room.symbols j l
+          ]
+
+-- At first there are none.
+abbrev pub no_row : List (Option ℕ)
+no_row = replicate 64 None
+
+no_steps : (j y : ℕ) → entry (replicate 255 no_row) j y ≡ None
+no_steps j y =
+    elim (cases_lt j 255) [
+      | inl l ↦
+          ap (λ (xs : List (Option ℕ)). get_or xs y None) (get_or-replicate 255 j no_row [] l)
+          ∙ elim (cases_lt y 64) [ inl k ↦ get_or-replicate 64 y None None k | inr k ↦ get_or_past no_row y None (omega (arith, length-replicate {A = Option ℕ} 64 None)) ]
+      | inr l ↦ ap (λ (xs : List (Option ℕ)). get_or xs y None) (get_or_past (replicate 255 no_row) j [] (omega (arith, length-replicate 255 no_row)))
+    ]
+
+no_step_leads : (o : Option ℕ) (t : ℕ) → o ≡ None → o ≡ Some t → ⊥
+no_step_leads o t e f = cc
 
 -- The states as the walk knows them.
 pub known_length : (n : ℕ) (ws : List Row) → length (known_rows n ws) ≡ n
@@ -53,48 +99,60 @@ unfolding known_rows
 known_next n ws = listed_more (λ k. record { state = k; row = row_items ws k }) n
 
 pub begun : (g : Grammar) (w : Row) → FirstRow g (items w)
-    → Come g (record { count = 1; rows = replicate 256 w; steps = replicate 16384 255 }) 0 0
+    → Come g (record { count = 1; rows = replicate 256 w; steps = replicate 255 no_row }) 0 0
 unfolding known_rows listed
 begun g w f =
     record {
       some = omega arith;
       few = omega arith;
       row_room = length-replicate 256 w;
-      step_room = length-replicate {A = ℕ} 16384 255;
-      stepped = λ k n. absurd (n (all_same 16384 k));
+      step_room = record {
+        states = length-replicate 255 no_row;
+        symbols = λ s h. ap length (get_or-replicate 255 s no_row [] h) ∙ length-replicate {A = Option ℕ} 64 None;
+      };
+      stepped = λ s X t e. absurd (no_step_leads (entry (replicate 255 no_row) s X) t (no_steps s X) e);
       walked = begin f;
     }
 
+-- The byte of a step that leads below n.
+pub leads_below : {o : Option ℕ} {n : ℕ} → ((t : ℕ) → o ≡ Some t → t < n) → step_byte o ≢ 255 → step_byte o < n
+leads_below {o = None} f d = absurd (d refl)
+leads_below {o = Some t} f d = f t refl
+
 -- The ranges of the table so far.
 pub ranged : {g : Grammar} {b : Building} {i X : ℕ} → Come g b i X → Ranged g (table_so_far g b)
-ranged c = record { some_states = c.some; few_states = c.few; step_in = λ s X h l n. c.stepped (s * 64 + X) n }
+ranged c = record { some_states = c.some; few_states = c.few; step_in = λ s X h l n. leads_below (c.stepped s X) n }
 
 -- One try more, at the symbol X of the state i: the rows from n on and the step that is tried may change.
-module _ (g : Grammar) (n : ℕ) (ws : List Row) (ss : List ℕ) (i X : ℕ) (come : Come g (record { count = n; rows = ws; steps = ss }) i X)
+module _ (g : Grammar) (n : ℕ) (ws : List Row) (ss : List (List (Option ℕ))) (i X : ℕ) (come : Come g (record { count = n; rows = ws; steps = ss }) i X)
     (inside : i < n) (symbol : X < symbols g) (few : symbols g ≤ 64)
-    (m : ℕ) (vs : List Row) (v : ℕ) (same : (k : ℕ) → k < n → row_items vs k ≡ row_items ws k) where
-  place_in : i * 64 + X < length ss
-  place_in = omega (arith, come.few, come.step_room)
+    (m : ℕ) (vs : List Row) (v : Option ℕ) (same : (k : ℕ) → k < n → row_items vs k ≡ row_items ws k) where
+  state_in : i < 255
+  state_in = omega (arith, come.few)
+
+  symbol_in : X < 64
+  symbol_in = omega arith
 
   pub known_on : known_rows n vs ≡ known_rows n ws
   known_on = known_same n vs ws same
 
   -- The walk so far is one over the changed table.
-  carried : Walked g (built_table g m vs (set ss (i * 64 + X) v)) (known_rows n vs) i X 0
+  carried : Walked g (built_table g m vs (put ss i X v)) (known_rows n vs) i X 0
   carried =
-      subst (λ (ks : List Known). Walked g (built_table g m vs (set ss (i * 64 + X) v)) ks i X 0) (sym known_on)
+      subst (λ (ks : List Known). Walked g (built_table g m vs (put ss i X v)) ks i X 0) (sym known_on)
       (walked_alike (record { steps_are = steps_on; marks_are = marks_on }) come.walked)
     where
       steps_on : (j y : ℕ) → j < length (known_rows n ws) → y < symbols g → Tried i X j y
-          → get_or (set ss (i * 64 + X) v) (state_at (known_rows n ws) j * 64 + y) 255 ≡ get_or ss (state_at (known_rows n ws) j * 64 + y) 255
-      steps_on j y h l (inl t) =
-          let e = state_is n ws j (omega (arith, known_length n ws)) in
-          let d : state_at (known_rows n ws) j * 64 + y ≢ i * 64 + X = omega arith in
-          get_or-set_other ss (i * 64 + X) (state_at (known_rows n ws) j * 64 + y) v 255 d
-      steps_on j y h l (inr (p, t)) =
-          let e = state_is n ws j (omega (arith, known_length n ws)) in
-          let d : state_at (known_rows n ws) j * 64 + y ≢ i * 64 + X = omega arith in
-          get_or-set_other ss (i * 64 + X) (state_at (known_rows n ws) j * 64 + y) v 255 d
+          → step_byte (entry (put ss i X v) (state_at (known_rows n ws) j) y) ≡ step_byte (entry ss (state_at (known_rows n ws) j) y)
+      steps_on j y h l t =
+          ap step_byte (entry_other ss come.step_room i X v state_in symbol_in (state_at (known_rows n ws) j) y (untried t))
+        where
+          e : state_at (known_rows n ws) j ≡ j
+          e = state_is n ws j (omega (arith, known_length n ws))
+
+          untried : Tried i X j y → state_at (known_rows n ws) j ≡ i → y ≢ X
+          untried (inl t) p q = omega (arith, e)
+          untried (inr t) p q = omega (arith, t.1)
 
       marks_on : (j q : ℕ) → j < length (known_rows n ws) → q < rule_count g → Tried i 0 j q
           → wanted_mark g (row_items vs (state_at (known_rows n ws) j)) q ≡ wanted_mark g (row_items ws (state_at (known_rows n ws) j)) q
@@ -103,7 +161,7 @@ module _ (g : Grammar) (n : ℕ) (ws : List Row) (ss : List ℕ) (i X : ℕ) (co
           let e = state_is n ws j k in
           ap (λ (w : Items). wanted_mark g w q) (same (state_at (known_rows n ws) j) (omega arith))
 
-  pub here : At g (built_table g m vs (set ss (i * 64 + X) v)) (known_rows n vs) i X (row_items vs i) i v
+  pub here : At g (built_table g m vs (put ss i X v)) (known_rows n vs) i X (row_items vs i) i (step_byte v)
   here =
       record {
         come = carried;
@@ -111,58 +169,62 @@ module _ (g : Grammar) (n : ℕ) (ws : List Row) (ss : List ℕ) (i X : ℕ) (co
         symbol = symbol;
         row = sym (row_is n vs i inside);
         state = sym (state_is n vs i inside);
-        byte = sym (get_or-set_same ss (i * 64 + X) v 255 place_in);
+        byte = sym (ap step_byte (entry_same ss come.step_room i X v state_in symbol_in));
       }
 
   -- The steps stay in range.
-  stepped_on : n ≤ m → (v ≢ 255 → v < m) → (k : ℕ) → get_or (set ss (i * 64 + X) v) k 255 ≢ 255 → get_or (set ss (i * 64 + X) v) k 255 < m
-  stepped_on l h k d =
-      elim (cases_eq k (i * 64 + X)) [
-        | inl e ↦
-            let f : get_or (set ss (i * 64 + X) v) k 255 ≡ v = ap (λ (j : ℕ). get_or (set ss (i * 64 + X) v) j 255) e ∙ get_or-set_same ss (i * 64 + X) v 255 place_in in
-            omega (arith, h (λ q. d (f ∙ q)))
-        | inr e ↦
-            let f : get_or (set ss (i * 64 + X) v) k 255 ≡ get_or ss k 255 = get_or-set_other ss (i * 64 + X) k v 255 e in
-            omega (arith, come.stepped k (λ q. d (f ∙ q)))
+  stepped_on : n ≤ m → ((t : ℕ) → v ≡ Some t → t < m) → Stepped m (put ss i X v)
+  stepped_on l h s Y t e =
+      elim (cases_eq s i) [
+        | inl p ↦
+            elim (cases_eq Y X) [
+              | inl q ↦
+                  h t (sym (ap₂ (λ (j y : ℕ). entry (put ss i X v) j y) p q ∙ entry_same ss come.step_room i X v state_in symbol_in) ∙ e)
+              | inr d ↦ omega (arith, come.stepped s Y t (sym (entry_other ss come.step_room i X v state_in symbol_in s Y (λ r. d)) ∙ e))
+            ]
+        | inr d ↦ omega (arith, come.stepped s Y t (sym (entry_other ss come.step_room i X v state_in symbol_in s Y (λ r. absurd (d r))) ∙ e))
       ]
 
-  pub goes_on : n ≤ m → m ≤ 255 → length vs ≡ 256 → (v ≢ 255 → v < m)
-      → Walked g (built_table g m vs (set ss (i * 64 + X) v)) (known_rows m vs) i (X + 1) 0
-      → Come g (record { count = m; rows = vs; steps = set ss (i * 64 + X) v }) i (X + 1)
+  pub goes_on : n ≤ m → m ≤ 255 → length vs ≡ 256 → ((t : ℕ) → v ≡ Some t → t < m)
+      → Walked g (built_table g m vs (put ss i X v)) (known_rows m vs) i (X + 1) 0
+      → Come g (record { count = m; rows = vs; steps = put ss i X v }) i (X + 1)
   goes_on l h r e w =
       record {
         some = omega (arith, come.some);
         few = h;
         row_room = r;
-        step_room = simp length-set come.step_room;
+        step_room = roomy_put ss come.step_room i X v state_in symbol_in;
         stepped = stepped_on l e;
         walked = w;
       }
 
+some_below : {j t n : ℕ} → j < n → Some j ≡ Some t → t < n
+some_below {j} {t} {n} h e = let d : j ≡ t = cc in omega arith
+
 -- What a try comes to: no step, a step to a known state, or a step to a new one.
-module _ (g : Grammar) (n : ℕ) (ws : List Row) (ss : List ℕ) (i X : ℕ) (come : Come g (record { count = n; rows = ws; steps = ss }) i X)
+module _ (g : Grammar) (n : ℕ) (ws : List Row) (ss : List (List (Option ℕ))) (i X : ℕ) (come : Come g (record { count = n; rows = ws; steps = ss }) i X)
     (inside : i < n) (symbol : X < symbols g) (few : symbols g ≤ 64) where
-  pub tried_none : NoStep g (row_items ws i) X → Come g (record { count = n; rows = ws; steps = set ss (i * 64 + X) 255 }) i (X + 1)
+  pub tried_none : NoStep g (row_items ws i) X → Come g (record { count = n; rows = ws; steps = put ss i X None }) i (X + 1)
   tried_none f =
-      goes_on g n ws ss i X come inside symbol few n ws 255 (λ k h. refl) (omega arith) come.few come.row_room (λ d. absurd (d refl))
-      (at_none (here g n ws ss i X come inside symbol few n ws 255 (λ k h. refl)) f refl)
+      goes_on g n ws ss i X come inside symbol few n ws None (λ k h. refl) (omega arith) come.few come.row_room (λ t e. cc)
+      (at_none (here g n ws ss i X come inside symbol few n ws None (λ k h. refl)) f refl)
 
   module _ (vs : List Row) (room : length vs ≡ 256) (same : (k : ℕ) → k < n → row_items vs k ≡ row_items ws k)
       (st : StepTo g (row_items vs i) X (row_items vs n)) where
-    pub tried_met : (j : ℕ) → j < n → row_items vs j ≡ row_items vs n → Come g (record { count = n; rows = vs; steps = set ss (i * 64 + X) j }) i (X + 1)
+    pub tried_met : (j : ℕ) → j < n → row_items vs j ≡ row_items vs n → Come g (record { count = n; rows = vs; steps = put ss i X (Some j) }) i (X + 1)
     tried_met j h e =
         let d : j ≢ 255 = omega (arith, come.few) in
-        goes_on g n ws ss i X come inside symbol few n vs j same (omega arith) come.few room (λ q. h)
-        (at_met (here g n ws ss i X come inside symbol few n vs j same) st d j
+        goes_on g n ws ss i X come inside symbol few n vs (Some j) same (omega arith) come.few room (λ t e. some_below h e)
+        (at_met (here g n ws ss i X come inside symbol few n vs (Some j) same) st d j
         (record { within = omega (arith, known_length n vs); is = state_is n vs j h }) (row_items vs j) (sym (row_is n vs j h)) e)
 
     pub tried_new : n < 255 → ((k : ℕ) → k < n → row_items vs k ≡ row_items vs n → ⊥)
-        → Come g (record { count = n + 1; rows = vs; steps = set ss (i * 64 + X) n }) i (X + 1)
+        → Come g (record { count = n + 1; rows = vs; steps = put ss i X (Some n) }) i (X + 1)
     tried_new h f =
         let d : n ≢ 255 = omega arith in
-        goes_on g n ws ss i X come inside symbol few (n + 1) vs n same (omega arith) (omega arith) room (λ q. omega arith)
-        (subst (λ (ks : List Known). Walked g (built_table g (n + 1) vs (set ss (i * 64 + X) n)) ks i (X + 1) 0) (sym known_more)
-        (at_new (here g n ws ss i X come inside symbol few (n + 1) vs n same) st d
+        goes_on g n ws ss i X come inside symbol few (n + 1) vs (Some n) same (omega arith) (omega arith) room (λ t e. some_below (omega arith) e)
+        (subst (λ (ks : List Known). Walked g (built_table g (n + 1) vs (put ss i X (Some n))) ks i (X + 1) 0) (sym known_more)
+        (at_new (here g n ws ss i X come inside symbol few (n + 1) vs (Some n) same) st d
         (λ j l e. let k : j < n = omega (arith, known_length n vs) in omega (arith, state_is n vs j k))
         (λ j l e. let k : j < n = omega (arith, known_length n vs) in f j k (sym (row_is n vs j k) ∙ e))))
       where
@@ -223,10 +285,10 @@ module _ (g : Grammar) (b d : Building) (i X : ℕ) (w : Row) (come : Come g b i
   same_below k h = let p : k ≢ b.count = omega arith in done.others_same k p
 
   pub met_turn : (z : Building) (t : ℕ) → t < b.count → row_items d.rows t ≡ row_items d.rows b.count → z ≡ d
-      → Come g (record { count = z.count; rows = z.rows; steps = set z.steps (i * 64 + X) t }) i (X + 1) × (b.count ≤ z.count)
+      → Come g (record { count = z.count; rows = z.rows; steps = put z.steps i X (Some t) }) i (X + 1) × (b.count ≤ z.count)
   met_turn z t h e p =
-      subst (λ (y : Building). Come g (record { count = y.count; rows = y.rows; steps = set y.steps (i * 64 + X) t }) i (X + 1) × (b.count ≤ y.count)) (sym p) (
-        subst₂ (λ (n : ℕ) (ss : List ℕ). Come g (record { count = n; rows = d.rows; steps = set ss (i * 64 + X) t }) i (X + 1))
+      subst (λ (y : Building). Come g (record { count = y.count; rows = y.rows; steps = put y.steps i X (Some t) }) i (X + 1) × (b.count ≤ y.count)) (sym p) (
+        subst₂ (λ (n : ℕ) (ss : List (List (Option ℕ))). Come g (record { count = n; rows = d.rows; steps = put ss i X (Some t) }) i (X + 1))
             (sym done.count_same) (sym done.steps_same)
             (tried_met g b.count b.rows b.steps i X come inside symbol few d.rows (done.room_same ∙ come.row_room) same_below
             (stepped_to g b d i X w inside kernel done) t h e),
@@ -235,10 +297,10 @@ module _ (g : Grammar) (b d : Building) (i X : ℕ) (w : Row) (come : Come g b i
 
   pub new_turn : (z : Building) (t : ℕ) → t ≡ b.count → t ≢ 255 → ((k : ℕ) → k < t → row_items d.rows k ≡ row_items d.rows b.count → ⊥)
       → z ≡ record { count = d.count + 1; rows = d.rows; steps = d.steps }
-      → Come g (record { count = z.count; rows = z.rows; steps = set z.steps (i * 64 + X) t }) i (X + 1) × (b.count ≤ z.count)
+      → Come g (record { count = z.count; rows = z.rows; steps = put z.steps i X (Some t) }) i (X + 1) × (b.count ≤ z.count)
   new_turn z t q u f p =
-      subst (λ (y : Building). Come g (record { count = y.count; rows = y.rows; steps = set y.steps (i * 64 + X) t }) i (X + 1) × (b.count ≤ y.count)) (sym p) (
-        subst₃ (λ (n : ℕ) (ss : List ℕ) (v : ℕ). Come g (record { count = n + 1; rows = d.rows; steps = set ss (i * 64 + X) v }) i (X + 1))
+      subst (λ (y : Building). Come g (record { count = y.count; rows = y.rows; steps = put y.steps i X (Some t) }) i (X + 1) × (b.count ≤ y.count)) (sym p) (
+        subst₃ (λ (n : ℕ) (ss : List (List (Option ℕ))) (v : ℕ). Come g (record { count = n + 1; rows = d.rows; steps = put ss i X (Some v) }) i (X + 1))
             (sym done.count_same) (sym done.steps_same) (sym q)
             (tried_new g b.count b.rows b.steps i X come inside symbol few d.rows (done.room_same ∙ come.row_room) same_below
             (stepped_to g b d i X w inside kernel done) (omega (arith, come.few)) (λ k h. f k (omega arith))),
@@ -291,7 +353,7 @@ finished g b rs c =
     size = known_length b.count b.rows
 
 -- As few states as there are leave no room for 256 item sets.
-pub not_many : {g : Grammar} {n : ℕ} {ws : List Row} {ss : List ℕ} → Built g n ws ss → Many g → ⊥
+pub not_many : {g : Grammar} {n : ℕ} {ws : List Row} {ss : List (List (Option ℕ))} → Built g n ws ss → Many g → ⊥
 not_many {n = n} {ws = ws} b m =
     ∥∥₁_elim m ⊥_prop (λ (f, many).
     let place : (k : ℕ) → k < 256 → (s : ℕ) × (s < n) × (row_items ws s ≡ f k) = λ k h. b.matched.onto (f k) (many.item_sets k h) in

@@ -1,4 +1,3 @@
-pub mod Grammars
 pub mod Growing
 pub mod Answering
 pub mod Writing

@@ -1,10 +1,12 @@
 -- The bytes of the table sheet of built states.
-use Rattle.std.proofs.Common.{◌≡◌, ℕ, ◌+◌, ◌-◌, ◌*◌, ◌/◌, ◌%◌, ◌<◌, ◌≤◌, Bool, ◌&&◌, ltb, List, [], ◌∷◌, ◌++◌, length, get_or, take, drop, set, sym, refl, ap, ◌∙◌, ap₂, arith}
+use Rattle.std.proofs.Common.{◌≡◌, ℕ, ◌-◌, ◌*◌, ◌/◌, ◌%◌, ◌<◌, ◌≤◌, Bool, ◌&&◌, ltb, List, ◌++◌, length, get_or, drop, refl, ap, ◌∙◌, ap₂, arith}
 use mathlib.Core.Logic.{∥∥₁_elim}
 use native.Mathlib.Bridge.{le_prop}
 use mir.Val.{bool_byte}
 use Rattle.std.proofs.lemmas.Nat.{mul-le}
-use Rattle.std.proofs.lemmas.List.{take_more, take_more_set, drop-set-lt, drop-drop, get_or_default}
+use Rattle.std.proofs.lemmas.List.{take_all, take-append-le, ext_get_or}
+use Rattle.std.proofs.lemmas.Slice.{drop-append-drop}
+use Rattle.grammar.specs.Writing.{Writes}
 use Rattle.parsing.specs.Grammar.{rule_count, rhs}
 use Rattle.grammar_format.specs.Sheets.{wide}
 use Rattle.grammar.specs.Meaning.{meaning}
@@ -19,11 +21,11 @@ use Rattle.table_format.proofs.Sheets.{length_table_bytes, header_byte_at, step_
 use Rattle.table_format.proofs.Turns.{wanted}
 use Rattle.table_format.proofs.Checks.{written_passes}
 use Rattle.table_format.proofs.Props.{matches_prop}
-use Rattle.built_states.specs.Built.{row_items}
+use Rattle.built_states.specs.Built.{row_items, entry, step_byte}
 use Rattle.built_states.specs.Meaning.{table}
 use Rattle.built_states.specs.Writing.{sheet}
 use Rattle.built_states.specs.declared.built.BuiltStates.{BuiltStates}
-use Rattle.built_states.proofs.Grammars.{symbols_few, right_sides}
+use Rattle.rows.proofs.Grammars.{few_symbols, right_sides}
 
 module _ (b : BuiltStates) where
   pub few_states : b.count ≤ 255
@@ -40,7 +42,7 @@ module _ (b : BuiltStates) where
   sheet_length = length_table_bytes (meaning b.grammar) (table b)
 
   pub marks_few : b.count * symbols (meaning b.grammar) ≤ 16320
-  marks_few = mul-le b.count (symbols (meaning b.grammar)) 255 64 few_states (symbols_few b.grammar)
+  marks_few = mul-le b.count (symbols (meaning b.grammar)) 255 64 few_states (few_symbols b.grammar)
 
   pub ends_few : b.count * rule_count (meaning b.grammar) ≤ 16320
   ends_few = mul-le b.count (rule_count (meaning b.grammar)) 255 64 few_states rules_few
@@ -55,14 +57,13 @@ module _ (b : BuiltStates) where
     step_cell : Cell b.count n (p - 12)
     step_cell = cell b.count n (p - 12) (rw symbols_are (omega arith))
 
-    pub step_place : (p - 12) / n * 64 + (p - 12) % n < 16384
-    step_place = omega (arith, step_cell.row_in, step_cell.column_in, symbols_few b.grammar, few_states)
+    pub step_place : ((p - 12) / n < 255) × ((p - 12) % n < 64)
+    step_place = (omega (arith, step_cell.row_in, few_states), omega (arith, step_cell.column_in, few_symbols b.grammar))
 
-    pub step_read_at : length b.steps ≡ 16384 → get_or b.steps ((p - 12) / n * 64 + (p - 12) % n) 0 ≡ get_or (sheet b) p 0
+    pub step_read_at : step_byte (entry b.steps ((p - 12) / n) ((p - 12) % n)) ≡ get_or (sheet b) p 0
     unfolding sheet
-    step_read_at e =
-        get_or_default b.steps ((p - 12) / n * 64 + (p - 12) % n) 0 255 (omega (arith, step_place))
-        ∙ ap (λ (k : ℕ). get_or b.steps ((p - 12) / k * 64 + (p - 12) % k) 255) symbols_are
+    step_read_at =
+        ap (λ (k : ℕ). step_byte (entry b.steps ((p - 12) / k) ((p - 12) % k))) symbols_are
         ∙ step_byte_at (meaning b.grammar) (table b) p low high
 
   module _ (p m n : ℕ) (low : m ≤ p) (high : p < length (sheet b)) (marks_are : m ≡ marks_at b.count (symbols (meaning b.grammar)))
@@ -86,19 +87,19 @@ module _ (b : BuiltStates) where
   unfolding sheet
   sheet_passes = written_passes (right_sides b.grammar) few_states matches
 
--- One byte more of xs in the room, and the bytes past it as they were.
-pub byte_more : (xs old room : List ℕ) (k v : ℕ) → k < length xs → k < length room → v ≡ get_or xs k 0
-    → take k room ≡ take k xs → drop k room ≡ drop k old
-    → (take (k + 1) (set room k v) ≡ take (k + 1) xs) × (drop (k + 1) (set room k v) ≡ drop (k + 1) old)
-byte_more xs old room k v h l e front past = (
-  take_more_set room k v l ∙ ap₂ (λ (ys : List ℕ) (y : ℕ). ys ++ y ∷ []) front e ∙ sym (take_more xs k 0 h),
-  drop-set-lt (k + 1) room k v (omega arith) ∙ sym (drop-drop 1 k room) ∙ ap (drop 1) past ∙ drop-drop 1 k old,
-)
+-- Equal numbers at the head of a sheet are written alike.
+pub heads_alike : {a b c d e p q r s t : ℕ} → a ≡ p → b ≡ q → c ≡ r → d ≡ s → e ≡ t
+    → wide a ++ (wide b ++ (wide c ++ (wide d ++ (wide 12 ++ wide e)))) ≡ wide p ++ (wide q ++ (wide r ++ (wide s ++ (wide 12 ++ wide t))))
+heads_alike f g h i j = rw (f, g, h, i, j)
 
--- A number of 16 bits as two bytes, in front of others.
-pub wide_before : (n : ℕ) {ys zs : List ℕ} (xs : List ℕ) (m : ℕ) → n < 65536 → m ≡ n → xs ≡ m / 256 % 256 ∷ (m % 256 ∷ []) → ys ≡ zs
-    → get_or xs 0 0 ∷ (get_or xs 1 0 ∷ ys) ≡ wide n ++ zs
-wide_before n {ys} {zs} xs m h e p q =
-    let high : get_or xs 0 0 ≡ n / 256 = ap (λ (us : List ℕ). get_or us 0 0) p ∙ omega (arith, e) in
-    let low : get_or xs 1 0 ≡ n % 256 = ap (λ (us : List ℕ). get_or us 1 0) p ∙ omega (arith, e) in
-    rw (high, low, q)
+-- A front that has the bytes xs, before what was there.
+pub written : (xs old front : List ℕ) (n : ℕ) → n ≡ length xs → n ≤ length old → length front ≡ n
+    → ((k : ℕ) → k < n → get_or front k 0 ≡ get_or xs k 0) → Writes xs old (front ++ drop n old) n
+written xs old front n e h l f = record {
+  need = e;
+  room = h;
+  front =
+      take-append-le n front (drop n old) (omega arith) ∙ take_all n front (omega arith)
+      ∙ ext_get_or 0 front xs (l ∙ e) (λ k i. f k (omega arith));
+  past = drop-append-drop n old front n (omega arith) l;
+}

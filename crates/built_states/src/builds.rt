@@ -21,7 +21,7 @@ impl Building {
         Building {
             count: 1,
             rows: [Row::first(grammar); 256],
-            steps: [255; 16384],
+            steps: [[None; 64]; 255],
         }
     }
 
@@ -32,12 +32,11 @@ impl Building {
         ensures same { row_items self.now.rows result ≡ row_items self.now.rows slot }
         ensures first { (k : ℕ) → k < result → row_items self.now.rows k ≢ row_items self.now.rows slot }
     {
-        for j in 0..slot {
-            if self.rows[j].same(&self.rows[slot]) {
-                return j;
-            }
-        }
-        slot
+        let row = &self.rows[slot];
+        self.rows[..slot]
+            .iter()
+            .position(|known| known.same(row))
+            .unwrap_or(slot)
     }
 
     /// Completes a kernel in the place `slot` of the table, among the other rows, which keep their bytes.
@@ -58,12 +57,11 @@ impl Building {
         ensures cases { MatchResult result (λ _. Come (meaning grammar.now) self.new i (x + 1)) (λ e. (e ≡ TooManyStates) × Many (meaning grammar.now)) }
         ensures grows { self.old.count ≤ self.new.count }
     {
-        let at = i * 64 + x;
         let Some(kernel) = self.rows[i].kernel(grammar, x) else {
-            self.steps[at] = 255;
+            self.steps[i][x] = None;
             return Ok(());
         };
-        let slot = self.count;
+        let slot = usize::from(self.count);
         self.complete_at(grammar, slot, kernel);
         let target = self.place_of(slot);
         if target == 255 {
@@ -72,7 +70,7 @@ impl Building {
         if target == slot {
             self.count += 1;
         }
-        self.steps[at] = target as u8;
+        self.steps[i][x] = Some(target as u8);
         Ok(())
     }
 
@@ -83,8 +81,7 @@ impl Building {
         ensures cases { MatchResult result (λ _. Come (meaning grammar.now) self.new (i + 1) 0) (λ e. (e ≡ TooManyStates) × Many (meaning grammar.now)) }
         ensures grows { self.old.count ≤ self.new.count }
     {
-        let symbols = usize::from(grammar.terminals()) + usize::from(grammar.nonterminals());
-        for x in 0..symbols {
+        for x in 0..usize::from(grammar.symbols()) {
             self.add_step(grammar, i, x)?;
         }
         Ok(())
@@ -96,7 +93,8 @@ impl Building {
     {
         let mut states = Building::begin(grammar);
         let mut i = 0;
-        while i < states.count {
+        // By number: the states grow on the way.
+        while i < usize::from(states.count) {
             states.expand(grammar, i)?;
             i += 1;
         }
@@ -113,7 +111,7 @@ impl BuiltStates {
         let Building { count, rows, steps } = Building::all(grammar)?;
         Ok(BuiltStates {
             grammar: *grammar,
-            count: count as u8,
+            count,
             rows,
             steps,
         })

@@ -1,6 +1,6 @@
 //! States built from a grammar.
 ghost use Rattle.grammar.specs.Meaning.{meaning};
-ghost use Rattle.built_states.specs.Built.{Built};
+ghost use Rattle.built_states.specs.Built.{Built, Stepped};
 
 use grammar::Grammar;
 use rows::Row;
@@ -11,6 +11,7 @@ pub struct BuiltStates {
     pub(crate) grammar: Grammar,
     pub(crate) count: u8,
     pub(crate) rows: [Row; 256],
-    pub(crate) steps: [u8; 16384],
+    pub(crate) steps: [[Option<u8>; 64]; 255],
+    ghost stepped: { Stepped count steps },
     ghost built: { ∥ Built (meaning grammar) count rows steps ∥₁ },
 }

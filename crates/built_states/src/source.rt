@@ -33,6 +33,7 @@ impl StateSource for BuiltStates {
           few_nonterminals = (held b.grammar).kept.few_nonterminals;
         } };
 
+    // Each source passes these six on by itself: the trait asks for a meaning, not for a grammar that is held.
     fn terminals(&self) -> u8 {
         self.grammar.terminals()
     }
@@ -69,14 +70,10 @@ impl StateSource for BuiltStates {
         if state >= self.states() {
             return None;
         }
-        if usize::from(symbol) >= self.symbols() {
+        if symbol >= self.grammar.symbols() {
             return None;
         }
-        let target = self.steps[usize::from(state) * 64 + usize::from(symbol)];
-        if target == 255 {
-            return None;
-        }
-        Some(target)
+        self.steps[usize::from(state)][usize::from(symbol)]
     }
 
     fn done(&self, state: u8, rule: u8) -> bool {

@@ -7,6 +7,7 @@ ghost use Rattle.table_format.specs.Sheets.{marks_at as marks_offset, header_byt
 ghost use Rattle.built_states.specs.Writing.{sheet, Written, Short};
 
 use crate::built::BuiltStates;
+use sheet_head::head_bytes;
 use states::TableFault;
 
 impl BuiltStates {
@@ -15,7 +16,7 @@ impl BuiltStates {
         ensures value { result ≡ marks_offset self.now.count (total (meaning self.now.grammar)) }
         ensures bound { result ≤ 16332 }
     {
-        12 + usize::from(self.count) * self.symbols()
+        12 + usize::from(self.count) * usize::from(self.grammar.symbols())
     }
 
     /// How many bytes the table sheet has.
@@ -30,13 +31,14 @@ impl BuiltStates {
     fn header(&self) -> [u8; 12]
         ensures { result ≡ header_bytes self.now.count (total (meaning self.now.grammar)) (rule_count (meaning self.now.grammar)) }
     {
-        let [a, b] = (self.sheet_len() as u16).to_be_bytes();
-        let [c, d] = u16::from(self.count).to_be_bytes();
-        let [e, f] = (self.symbols() as u16).to_be_bytes();
-        let [g, h] = u16::from(self.grammar.rules()).to_be_bytes();
-        let [i, j] = 12u16.to_be_bytes();
-        let [k, l] = (self.marks_at() as u16).to_be_bytes();
-        [a, b, c, d, e, f, g, h, i, j, k, l]
+        head_bytes([
+            self.sheet_len() as u16,
+            u16::from(self.count),
+            u16::from(self.grammar.symbols()),
+            u16::from(self.grammar.rules()),
+            12,
+            self.marks_at() as u16,
+        ])
     }
 
     /// The byte of the sheet at an offset.
@@ -49,8 +51,8 @@ impl BuiltStates {
             self.header()[offset]
         } else if offset < marks {
             let cell = offset - 12;
-            let symbols = self.symbols();
-            self.steps[cell / symbols * 64 + cell % symbols]
+            let symbols = usize::from(self.grammar.symbols());
+            self.steps[cell / symbols][cell % symbols].unwrap_or(255)
         } else {
             let cell = offset - marks;
             let rules = usize::from(self.grammar.rules());
@@ -67,8 +69,9 @@ impl BuiltStates {
         if room.len() < need {
             return Err(TableFault::RoomShort { need });
         }
-        for offset in 0..need {
-            room[offset] = self.sheet_byte(offset);
+        let front = &mut room[..need];
+        for (offset, byte) in front.iter_mut().enumerate() {
+            *byte = self.sheet_byte(offset);
         }
         Ok(need)
     }

@@ -15,12 +15,11 @@ pub enum GatherFault {
     AlternativesShort,
 }
 
-impl GatherFault {
-    /// The refusal that the fault is shown as.
-    pub fn refusal(&self) -> Refusal
-        ensures { result ≡ told self.now }
-    {
-        let number = match *self {
+impl From<GatherFault> for Refusal {
+    ghost from_gives = { λ f r. r ≡ told f };
+
+    fn from(fault: GatherFault) -> Refusal {
+        let number = match fault {
             GatherFault::NoSentence => 48,
             GatherFault::NodesShort => 49,
             GatherFault::AlternativesShort => 50,
@@ -31,5 +30,14 @@ impl GatherFault {
             first: 0,
             second: 0,
         }
+    }
+}
+
+impl GatherFault {
+    /// The refusal that the fault is shown as.
+    pub fn refusal(&self) -> Refusal
+        ensures { result ≡ told self.now }
+    {
+        Refusal::from(*self)
     }
 }

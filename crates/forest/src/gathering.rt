@@ -1,5 +1,5 @@
 //! Gathering a forest.
-ghost use Rattle.std.specs.Prelude.{◌≡◌, ◌≤◌, length, replicate};
+ghost use Rattle.std.specs.Prelude.{◌≤◌, length};
 ghost use Rattle.parsing.specs.Links.{Linked};
 ghost use Rattle.forest.specs.Forests.{Holds, Gathers, Writes};
 
@@ -30,13 +30,11 @@ fn write<S: StateSource, F: Fits>(
     ensures { Writes (S.StateSource.meaning source.now).grammar (F.Fits.says spans.now) last nodes.old alternatives.old nodes.new alternatives.new result }
 {
     let mut node_register = Register::new(nodes);
-    let Ok(_) = put_all_nodes(source, spans, last, &mut node_register) else {
-        return Err(GatherFault::NodesShort);
-    };
+    put_all_nodes(source, spans, last, &mut node_register).map_err(|_| GatherFault::NodesShort)?;
     let mut register = Register::new(alternatives);
-    let Ok(_) = put_all_alternatives(source, spans, node_register.records(), &mut register) else {
-        return Err(GatherFault::AlternativesShort);
-    };
+    put_all_alternatives(source, spans, node_register.records(), &mut register).map_err(
+        |_| GatherFault::AlternativesShort,
+    )?;
     let counts = Counts {
         nodes: node_register.len(),
         alternatives: register.len(),
@@ -44,13 +42,6 @@ fn write<S: StateSource, F: Fits>(
     node_register.fill_rest(Node::blank());
     register.fill_rest(Alternative::blank());
     Ok(counts)
-}
-
-/// Writes x into each slot.
-fn fill<T: Copy>(slots: &mut [T], x: T)
-    ensures { slots.new ≡ replicate (length slots.old) x }
-{
-    Register::new(slots).fill_rest(x);
 }
 
 /// Writes the nodes and the alternatives of all derivations of the words into the two lists, each once and in order, and blank records
@@ -64,9 +55,7 @@ pub fn gather<S: StateSource>(
 ) -> Result<Counts, GatherFault>
     ensures { length words.now ≤ 254 → Holds links.now (Linked (S.StateSource.meaning source.now) words.now) → Gathers (S.StateSource.meaning source.now).grammar words.now nodes.old alternatives.old nodes.new alternatives.new result }
 {
-    let Ok(last) = u8::try_from(words.len()) else {
-        return Err(GatherFault::NoSentence);
-    };
+    let last = u8::try_from(words.len()).map_err(|_| GatherFault::NoSentence)?;
     let mut spans = SpanTable::empty();
     spans.add_words(source, words);
     spans.add_links(source, links);
@@ -75,8 +64,8 @@ pub fn gather<S: StateSource>(
     }
     let written = write(source, &spans, last, nodes, alternatives);
     if written.is_err() {
-        fill(nodes, Node::blank());
-        fill(alternatives, Alternative::blank());
+        nodes.fill(Node::blank());
+        alternatives.fill(Alternative::blank());
     }
     written
 }

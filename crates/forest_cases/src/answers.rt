@@ -44,12 +44,8 @@ pub fn gathered(
     links: &[Link],
     room: (usize, usize),
 ) -> Result<Answer, Fail> {
-    let Ok(grammar) = Grammar::read(sheet) else {
-        return Err(Fail::new("the sheet is refused"));
-    };
-    let Ok(source) = BuiltStates::build(&grammar) else {
-        return Err(Fail::new("there are too many states"));
-    };
+    let grammar = Grammar::read(sheet).map_err(|_| Fail::new("the sheet is refused"))?;
+    let source = BuiltStates::build(&grammar).map_err(|_| Fail::new("there are too many states"))?;
     let mut nodes = [old_node(); ROOM];
     let mut alternatives = [old_alternative(); ROOM];
     let (n, m) = room;

@@ -1,5 +1,5 @@
 //! Gatherings over two small grammars.
-use crate::answers::{Answer, ROOM, gathered};
+use crate::answers::{Answer, gathered};
 use link_growth::Link;
 use records::{Alternative, Node};
 use std::process::Abort;
@@ -98,18 +98,16 @@ fn links_of_q() -> [Link; 11] {
 /// The list holds these nodes, and blank ones past them.
 fn check_nodes(rt: &impl Abort, got: &Answer, nodes: &[Node]) {
     assert!(rt; got.counts.0 == nodes.len());
-    for k in 0..ROOM {
-        assert!(rt; got.nodes[k] == nodes.get(k).copied().unwrap_or(Node::blank()));
+    for (k, node) in got.nodes.iter().enumerate() {
+        assert!(rt; *node == nodes.get(k).copied().unwrap_or(Node::blank()));
     }
 }
 
 /// The list holds these alternatives, and blank ones past them.
 fn check_alternatives(rt: &impl Abort, got: &Answer, alternatives: &[Alternative]) {
     assert!(rt; got.counts.1 == alternatives.len());
-    for k in 0..ROOM {
-        assert!(rt;
-            got.alternatives[k] == alternatives.get(k).copied().unwrap_or(Alternative::blank())
-        );
+    for (k, alternative) in got.alternatives.iter().enumerate() {
+        assert!(rt; *alternative == alternatives.get(k).copied().unwrap_or(Alternative::blank()));
     }
 }
 
@@ -123,9 +121,11 @@ fn check_lists(rt: &impl Abort, got: &Answer, nodes: &[Node], alternatives: &[Al
 /// The lists of this room are blank.
 fn check_blank(rt: &impl Abort, got: &Answer, number: u8, room: (usize, usize)) {
     assert!(rt; got.refused == number);
-    for k in 0..ROOM {
-        assert!(rt; (got.nodes[k] == Node::blank()) == (k < room.0));
-        assert!(rt; (got.alternatives[k] == Alternative::blank()) == (k < room.1));
+    for (k, node) in got.nodes.iter().enumerate() {
+        assert!(rt; (*node == Node::blank()) == (k < room.0));
+    }
+    for (k, alternative) in got.alternatives.iter().enumerate() {
+        assert!(rt; (*alternative == Alternative::blank()) == (k < room.1));
     }
 }
 

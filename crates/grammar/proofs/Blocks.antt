@@ -1,47 +1,64 @@
--- The nine bytes of a rule, read one after another.
-use Rattle.std.proofs.Common.{◌≡◌, ℕ, ◌+◌, ◌-◌, ◌*◌, ◌<◌, ◌≤◌, List, [], ◌∷◌, ◌++◌, length, get_or, take, drop, set, sym, ap, ◌∙◌, ap₂, inl, inr, arith}
+-- The nine bytes of a rule.
+use Rattle.std.proofs.Common.{◌≡◌, ℕ, ◌+◌, ◌-◌, ◌*◌, ◌<◌, ◌≤◌, ◌≢◌, List, length, get_or, take, drop, sym, ap, ◌∙◌, ap₂, refl, arith, length-drop, get_or-drop, get_or-take, length-take-le}
 use mathlib.Core.Path.{subst₃}
-use Rattle.std.proofs.lemmas.List.{take_more_set, take_more, take_all, get_or-drop, length-drop}
-use Rattle.grammar_format.specs.Fields.{terminals, nonterminals, symbols, rules, block, left, right_length, right}
+use Rattle.std.proofs.lemmas.List.{take_rest}
+use Rattle.grammar_format.specs.Sheets.{rule_bytes}
+use Rattle.grammar_format.specs.Fields.{terminals, nonterminals, symbols, rules, block, left, right_length, right, rule_of}
 use Rattle.grammar_format.specs.Breaches.{IllFormed, unknown, unfilled, Breach, rule_form}
-use Rattle.grammar_format.proofs.Cleaning.{formed_fine}
-use Rattle.grammar.specs.Progress.{Stands, Strays}
+use Rattle.grammar_format.proofs.Cleaning.{Formed, formed_fine}
+use Rattle.grammar_format.proofs.Rules.{rule_bytes_of}
 
--- A byte that strays makes the rule ill-formed.
-pub strays : {T K : ℕ} (x : List ℕ) (d : ℕ) → d < 7 → Strays (right x d) d (right_length x) K → IllFormed T K x
-strays x d h (inl (l, k)) = unknown d h l k
-strays x d h (inr (l, n)) = unfilled d h l n
+-- The seven bytes behind the first two, split behind as many as the second tells.
+module _ (x : List ℕ) (nine : length x ≡ 9) (n : ℕ) (e : n ≡ right_length x) (short : right_length x ≤ 7) (xs ys : List ℕ)
+    (front : xs ≡ take n (take (length x - 2) (drop 2 x))) (back : ys ≡ drop n (take (length x - 2) (drop 2 x))) where
+  front_is : xs ≡ take (right_length x) (drop 2 x)
+  front_is = front ∙ ap₂ (λ (k : ℕ) (zs : List ℕ). take k zs) e (take_rest x 2)
 
--- One right symbol more.
-pub right_more : (x ys : List ℕ) (d : ℕ) → length x ≡ 9 → length ys ≡ 7 → d < 7 → take d ys ≡ take d (drop 2 x)
-    → take (d + 1) (set ys d (get_or x (2 + d) 0)) ≡ take (d + 1) (drop 2 x)
-right_more x ys d l m h e =
-    let k : d < length ys = omega arith in
-    let n : d < length (drop 2 x) = simp length-drop (omega arith) in
-    take_more_set ys d (get_or x (2 + d) 0) k
-    ∙ ap₂ (λ (us : List ℕ) (u : ℕ). us ++ u ∷ []) e (sym (get_or-drop 2 x d 0))
-    ∙ sym (take_more (drop 2 x) d 0 n)
+  back_is : ys ≡ drop (right_length x) (drop 2 x)
+  back_is = back ∙ ap₂ (λ (k : ℕ) (zs : List ℕ). drop k zs) e (take_rest x 2)
 
--- Nine bytes are the left symbol, the length and the seven right symbols.
-pub block_is : (x ys : List ℕ) → length x ≡ 9 → length ys ≡ 7 → take 7 ys ≡ take 7 (drop 2 x)
-    → get_or x 0 0 ∷ (get_or x 1 0 ∷ ys) ≡ x
-block_is [] ys l m e = absurd (omega arith)
-block_is (a ∷ []) ys l m e = absurd (omega arith)
-block_is (a ∷ (b ∷ xs)) ys l m e =
-    ap (λ (zs : List ℕ). a ∷ (b ∷ zs))
-    (sym (take_all 7 ys (omega arith)) ∙ e ∙ take_all 7 xs (omega arith))
+  front_size : length xs ≡ right_length x
+  front_size = ap length front_is ∙ length-take-le (right_length x) (drop 2 x) (omega (arith, length-drop 2 x))
 
--- A rule whose bytes all stand where they may is not ill-formed.
-pub all_stand : {T K : ℕ} (x : List ℕ) → T ≤ left x → left x < K → right_length x ≤ 7
-    → ((d : ℕ) → d < 7 → Stands (right x d) d (right_length x) K) → IllFormed T K x → ⊥
-all_stand x low high short f =
-    formed_fine (record {
+  back_size : length ys ≡ 7 - right_length x
+  back_size = ap length back_is ∙ length-drop (right_length x) (drop 2 x) ∙ ap (λ (k : ℕ). k - right_length x) (omega (arith, length-drop 2 x))
+
+  right_at : (d : ℕ) → d < right_length x → get_or xs d 0 ≡ right x d
+  right_at d h = ap (λ (zs : List ℕ). get_or zs d 0) front_is ∙ get_or-take (right_length x) (drop 2 x) d 0 h ∙ get_or-drop 2 x d 0
+
+  past_at : (d k : ℕ) → right_length x + d ≡ k → get_or ys d 0 ≡ right x k
+  past_at d k i =
+      ap (λ (zs : List ℕ). get_or zs d 0) back_is ∙ get_or-drop (right_length x) (drop 2 x) d 0 ∙ get_or-drop 2 x (right_length x + d) 0
+      ∙ ap (right x) i
+
+  -- A byte that is no symbol, or not 255 past the length, makes the rule ill-formed.
+  pub unknown_at : (T K : ℕ) → (d : ℕ) × (d < length xs) × (K ≤ get_or xs d 0) → IllFormed T K x
+  unknown_at T K (d, h, k) =
+      let l : d < right_length x = omega (arith, front_size) in
+      unknown d (omega arith) l (omega (arith, right_at d l))
+
+  pub unfilled_at : (T K : ℕ) → (d : ℕ) × (d < length ys) × (get_or ys d 0 ≢ 255) → IllFormed T K x
+  unfilled_at T K (d, h, k) =
+      unfilled (right_length x + d) (omega (arith, back_size)) (omega arith) (λ i. k (past_at d (right_length x + d) refl ∙ i))
+
+  -- Otherwise it has the form of a rule, and these are its bytes.
+  module _ (T K : ℕ) (low : T ≤ left x) (high : left x < K) (known : (d : ℕ) → d < length xs → get_or xs d 0 < K)
+      (filled : (d : ℕ) → d < length ys → get_or ys d 0 ≡ 255) where
+    formed : Formed T K x
+    formed = record {
       left_from = low;
       left_under = high;
       short = short;
-      known = λ d h. (f d (omega arith)).0 h;
-      filled = λ d h k. (f d h).1 k;
-    })
+      known = λ d h. omega (arith, known d (omega (arith, front_size)), right_at d h);
+      filled = λ d h k. sym (past_at (d - right_length x) d (omega arith)) ∙ filled (d - right_length x) (omega (arith, back_size));
+    }
+
+    pub well_formed : IllFormed T K x → ⊥
+    well_formed = formed_fine formed
+
+    pub block_same : (zs : List ℕ) → zs ≡ xs → rule_bytes (record { left = get_or x 0 0; right = zs }) ≡ x
+    unfolding rule_of
+    block_same zs i = ap (λ (us : List ℕ). rule_bytes (record { left = get_or x 0 0; right = us })) (i ∙ front_is) ∙ rule_bytes_of x nine formed
 
 -- The part of the sheet from 12 + 9 r on, nine bytes long, is the block of the rule r.
 pub part_is : (b : List ℕ) (r : ℕ) → take ((12 + 9 * r + 9) - (12 + 9 * r)) (drop (12 + 9 * r) b) ≡ block b r

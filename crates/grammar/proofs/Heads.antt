@@ -1,8 +1,8 @@
 -- The rows of the header: what has passed leaves no breach there.
-use Rattle.std.proofs.Common.{ℕ, List, inl, inr}
-use Rattle.grammar_format.specs.Fields.{terminals, nonterminals, rules}
-use Rattle.grammar_format.specs.Breaches.{Breach, Clean, few_terminals, many_terminals, few_nonterminals, many_nonterminals, few_rules, many_rules}
+use Rattle.std.proofs.Common.{◌≡◌, ℕ, List, length, get_or, sym, ◌∙◌, inl, inr, arith}
+use Rattle.grammar_format.specs.Breaches.{Breach, Clean, First, few_terminals, many_terminals, few_nonterminals, many_nonterminals, few_rules, many_rules}
 use Rattle.grammar_format.proofs.Cleaning.{clean_start, clean_row, row_10, row_11, row_12}
+use Rattle.sheet_head.specs.Heads.{Tells}
 use Rattle.grammar.specs.Heads.{Long, Outside, Counted, Placed}
 
 pub clean_long : (b : List ℕ) → Long b → Clean b 11
@@ -17,15 +17,26 @@ pub clean_placed : (b : List ℕ) → Long b → Counted b → Placed b → Clea
 clean_placed b l c p =
     clean_row {n = 12} 0 (clean_counted b l c) (λ q h. row_12 b p.rules_at p.spellings_at p.fit q)
 
--- A count outside its range is a breach.
-pub terminals_breach : (b : List ℕ) → Outside (terminals b) 1 40 → Breach b 11 0
-terminals_breach b (inl h) = few_terminals h
-terminals_breach b (inr h) = many_terminals h
+-- The six numbers of the head, of which the first is the whole length.
+module _ {b ns : List ℕ} (t : Tells b ns) (w : get_or ns 0 0 ≡ length b) where
+  pub long_told : Long b
+  long_told = record { head = t.head; whole = sym t.first ∙ w }
 
-pub nonterminals_breach : (b : List ℕ) → Outside (nonterminals b) 2 24 → Breach b 11 0
-nonterminals_breach b (inl h) = few_nonterminals h
-nonterminals_breach b (inr h) = many_nonterminals h
+  count_fault : Breach b 11 0 → First b 11 0
+  count_fault x = record { applies = x; before = clean_long b long_told }
 
-pub rules_breach : (b : List ℕ) → Outside (rules b) 2 64 → Breach b 11 0
-rules_breach b (inl h) = few_rules h
-rules_breach b (inr h) = many_rules h
+  -- A count outside its range is a breach.
+  pub terminals_fault : Outside (get_or ns 1 0) 1 40 → First b 11 0
+  terminals_fault (inl h) = count_fault (few_terminals (omega (arith, t.second)))
+  terminals_fault (inr h) = count_fault (many_terminals (omega (arith, t.second)))
+
+  pub nonterminals_fault : Outside (get_or ns 2 0) 2 24 → First b 11 0
+  nonterminals_fault (inl h) = count_fault (few_nonterminals (omega (arith, t.third)))
+  nonterminals_fault (inr h) = count_fault (many_nonterminals (omega (arith, t.third)))
+
+  pub rules_fault : Outside (get_or ns 3 0) 2 64 → First b 11 0
+  rules_fault (inl h) = count_fault (few_rules (omega (arith, t.fourth)))
+  rules_fault (inr h) = count_fault (many_rules (omega (arith, t.fourth)))
+
+  pub offset_fault : Counted b → Breach b 12 0 → First b 12 0
+  offset_fault c x = record { applies = x; before = clean_counted b long_told c }

@@ -1,5 +1,5 @@
+pub mod Lists
 pub mod Heads
-pub mod Filling
 pub mod Finding
 pub mod Blocks
 pub mod Goals
@@ -8,5 +8,6 @@ pub mod Rewriting
 pub mod Marking
 pub mod Assembling
 pub mod Held
+pub mod Repeating
 pub mod Putting
 pub mod Pieces

@@ -1,5 +1,5 @@
 -- Bytes put into a room one piece behind another.
-use Rattle.std.proofs.Common.{◌≡◌, ℕ, zero, suc, ◌+◌, ◌<◌, ◌≤◌, List, [], ◌∷◌, ◌++◌, map, length, get_or, take, drop, sym, refl, ap, ◌∙◌, subst, ap₂, subst₂, append_assoc, add-zero, arith}
+use Rattle.std.proofs.Common.{◌≡◌, ℕ, ◌+◌, ◌<◌, ◌≤◌, List, [], ◌∷◌, ◌++◌, map, length, get_or, take, drop, sym, refl, ap, ◌∙◌, subst, ap₂, subst₂, append_assoc, add-zero, arith}
 use borrow.Rule.Slice.PartMut.{put_mid}
 use Rattle.std.specs.List.{flat_map}
 use Rattle.std.proofs.lemmas.List.{length-append, length-take, take_at, take_all, drop_at, drop-drop, take-append-drop, take_more, flat_map_more}
@@ -39,6 +39,10 @@ pub joined_next : {X : Type 0} (f : X → List ℕ) (xs : List X) (k : ℕ) (d :
     → flat_map f (take (k + 1) xs) ≡ flat_map f (take k xs) ++ f (get_or xs k d)
 joined_next f xs k d h = ap (flat_map f) (take_more xs k d h) ∙ sym (flat_map_more f [] (take k xs) (get_or xs k d))
 
+pub next_size : {X : Type 0} (f : X → List ℕ) (xs : List X) (k : ℕ) (d : X) → k < length xs
+    → length (flat_map f (take (k + 1) xs)) ≡ length (flat_map f (take k xs)) + length (f (get_or xs k d))
+next_size f xs k d h = ap length (joined_next f xs k d h) ∙ length-append (flat_map f (take k xs)) (f (get_or xs k d))
+
 pub put_next : {X : Type 0} (f : X → List ℕ) (xs : List X) (k : ℕ) (d : X) (old mid new ys : List ℕ) (at off : ℕ) → at ≤ length old
     → k < length xs → off ≡ at + length (flat_map f (take k xs)) → ys ≡ f (get_or xs k d)
     → Put old at (flat_map f (take k xs)) mid → Put mid off ys new → Put old at (flat_map f (take (k + 1) xs)) new
@@ -46,20 +50,6 @@ put_next f xs k d old mid new ys at off h l e y p q =
     subst (λ (zs : List ℕ). Put old at zs new) (sym (joined_next f xs k d l))
     (put_more old mid new (flat_map f (take k xs)) (f (get_or xs k d)) at h p (subst₂ (λ (o : ℕ) (us : List ℕ). Put mid o us new) e y q))
 
--- The front of a list has no longer pieces than the list.
-pub joined_front : {X : Type 0} (f : X → List ℕ) (xs : List X) (k : ℕ) → length (flat_map f (take k xs)) ≤ length (flat_map f xs)
-joined_front f [] zero = omega arith
-joined_front f [] (suc k) = omega arith
-joined_front f (x ∷ xs) zero = omega arith
-joined_front f (x ∷ xs) (suc k) =
-    let i = joined_front f xs k in
-    omega (arith, length-append (f x) (flat_map f (take k xs)), length-append (f x) (flat_map f xs))
-
 pub joined_map : {X Y : Type 0} (f : Y → List ℕ) (g : X → Y) (xs : List X) → flat_map f (map g xs) ≡ flat_map (λ x. f (g x)) xs
 joined_map f g [] = refl
 joined_map f g (x ∷ xs) = ap (λ (ys : List ℕ). f (g x) ++ ys) (joined_map f g xs)
-
-pub joined_same : {X : Type 0} (f g : X → List ℕ) (xs : List X) (d : X) → ((k : ℕ) → k < length xs → f (get_or xs k d) ≡ g (get_or xs k d))
-    → flat_map f xs ≡ flat_map g xs
-joined_same f g [] d h = refl
-joined_same f g (x ∷ xs) d h = ap₂ ◌++◌ (h 0 (omega arith)) (joined_same f g xs d (λ k l. h (suc k) (omega arith)))

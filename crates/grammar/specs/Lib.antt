@@ -1,4 +1,6 @@
+pub mod Lists
 pub mod Refusals
+pub mod Lines
 pub mod Holding
 pub mod Meaning
 pub mod Finding

@@ -1,12 +1,11 @@
 -- Marks on symbols, to find those that derive some list of terminals.
 --   marked m X       the symbol X is marked
---   Ranged p         the rule p has a left symbol and right symbols below 64, at most seven of these
---   Ready m p        all right symbols of p are marked
+--   Ready m xs       all symbols of xs are marked
 --   Within m n       every mark of m is one of n
 --   Sound g m        only symbols that derive some list of terminals of g are marked
 --   Closed ps m n    of the first n rules, each that is ready has its left symbol marked
 --   unmarked m n     how many of the first n symbols are not marked
-use Rattle.std.specs.Prelude.{◌≡◌, ℕ, zero, suc, ◌+◌, ◌<◌, ◌≤◌, Bool, true, false, cond, List, length, slice_index, slice_index_or}
+use Rattle.std.specs.Prelude.{◌≡◌, ℕ, zero, suc, ◌+◌, ◌<◌, Bool, true, false, cond, List, length, slice_index, slice_index_or}
 use Rattle.parsing.specs.Grammar.{Grammar, Productive}
 use Rattle.grammar.specs.Holding.{rule_at}
 use Rattle.grammar.specs.declared.rule.Rule.{Rule}
@@ -14,14 +13,8 @@ use Rattle.grammar.specs.declared.rule.Rule.{Rule}
 abbrev pub marked : List Bool → ℕ → Bool
 marked m X = slice_index_or m X false
 
-pub record Ranged (p : Rule) : Type 0 where
-  pub left_in : p.left < 64
-  pub short : p.length ≤ 7
-  pub room : length p.right ≡ 7
-  pub right_in : (d : ℕ) → d < p.length → slice_index p.right d < 64
-
-abbrev pub Ready : List Bool → Rule → Type 0
-Ready m p = (d : ℕ) → d < p.length → marked m (slice_index p.right d) ≡ true
+abbrev pub Ready : List Bool → List ℕ → Type 0
+Ready m xs = (d : ℕ) → d < length xs → marked m (slice_index xs d) ≡ true
 
 abbrev pub Within : List Bool → List Bool → Type 0
 Within m n = (X : ℕ) → marked m X ≡ true → marked n X ≡ true
@@ -30,7 +23,7 @@ abbrev pub Sound : Grammar → List Bool → Type 0
 Sound g m = (X : ℕ) → marked m X ≡ true → Productive g X
 
 abbrev pub Closed : List Rule → List Bool → ℕ → Type 0
-Closed ps m n = (r : ℕ) → r < n → Ready m (rule_at ps r) → marked m (rule_at ps r).left ≡ true
+Closed ps m n = (r : ℕ) → r < n → Ready m (rule_at ps r).right → marked m (rule_at ps r).left ≡ true
 
 unfoldable pub unmarked : List Bool → ℕ → ℕ
 unmarked m zero = 0

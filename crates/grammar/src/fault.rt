@@ -32,7 +32,15 @@ impl GrammarFault {
     pub fn refusal(&self) -> Refusal
         ensures { result ≡ told self.now }
     {
-        let (number, layer, first) = match *self {
+        Refusal::from(*self)
+    }
+}
+
+impl From<GrammarFault> for Refusal {
+    ghost from_gives = { λ fault refusal. refusal ≡ told fault };
+
+    fn from(fault: GrammarFault) -> Refusal {
+        let (number, layer, first) = match fault {
             GrammarFault::WholeLength => (10, Layer::Grammar, 0),
             GrammarFault::CountRange => (11, Layer::Grammar, 0),
             GrammarFault::Offset => (12, Layer::Grammar, 0),

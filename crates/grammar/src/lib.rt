@@ -2,9 +2,12 @@
 #![tactic(auto)]
 
 mod fault;
+mod few;
 mod goal;
 mod grammar;
+mod head;
 mod header;
+mod items;
 mod marks;
 mod parts;
 mod questions;

@@ -20,11 +20,11 @@ fn read_parts(sheet: &[u8]) -> Result<Parts, GrammarFault>
 {
     let header = Header::read(sheet)?;
     let rules = read_rules(sheet, header)?;
-    if let Some(rule) = goal_misused(&rules[0..usize::from(header.rules)], header.terminals) {
+    if let Some(rule) = goal_misused(rules.as_slice(), header.terminals) {
         return Err(GrammarFault::GoalRule { rule });
     }
     let spellings = read_spellings(sheet, header)?;
-    if let Some(terminal) = first_repeated(&spellings[0..usize::from(header.terminals)]) {
+    if let Some(terminal) = first_repeated(spellings.as_slice()) {
         return Err(GrammarFault::SpellingRepeated { terminal });
     }
     Ok(Parts {
@@ -45,22 +45,11 @@ impl Grammar {
             rules,
             spellings,
         } = read_parts(sheet)?;
-        let Header {
-            terminals,
-            nonterminals,
-            rules: count,
-        } = header;
-        if let Some(nonterminal) = first_unproductive(
-            &rules[0..usize::from(count)],
-            terminals,
-            nonterminals,
-        ) {
+        if let Some(nonterminal) = first_unproductive(rules.as_slice(), header) {
             return Err(GrammarFault::Unproductive { nonterminal });
         }
         Ok(Grammar {
-            terminals,
-            nonterminals,
-            count,
+            nonterminals: header.nonterminals,
             rules,
             spellings,
         })

@@ -1,42 +1,33 @@
 //! No two terminals are spelled alike.
-ghost use Rattle.std.specs.Prelude.{◌≡◌, ℕ, ◌<◌, ◌≤◌, length, Decides, MatchBool};
+ghost use Rattle.std.specs.Prelude.{◌≡◌, ℕ, ◌<◌, ◌≢◌, length, Decides, MatchBool};
+ghost use Rattle.std.specs.List.{AllWithin, HoldsAt};
 ghost use Rattle.grammar.specs.Finding.{FirstOf};
-ghost use Rattle.grammar.specs.Holding.{spelling_at, letters as spelled, Fitted};
+ghost use Rattle.grammar.specs.Holding.{words};
+ghost use Rattle.grammar.specs.Lists.{items};
 ghost use Rattle.grammar.specs.Progress.{Repeated};
 
 use crate::spelling::Spelling;
 
-impl Spelling {
-    /// The bytes that it spells.
-    pub(crate) fn letters(&self) -> &[u8]
-        requires { Fitted self.now }
-        ensures { result.now ≡ spelled self.now }
-    {
-        &self.bytes[0..usize::from(self.length)]
-    }
+/// Whether the spelling is the word.
+fn is_word(spelling: &Spelling, word: &[u8]) -> bool
+    ensures { Decides result (items spelling.now ≡ word.now) }
+{
+    spelling.as_slice() == word
 }
 
-/// Whether an earlier terminal is spelled like the terminal t.
-fn is_repeated(spellings: &[Spelling], t: usize) -> bool
-    requires place { t < length spellings.now }
-    requires fitted { (k : ℕ) → k < length spellings.now → Fitted (spelling_at spellings.now k) }
-    ensures { MatchBool result (Repeated spellings.now t) (Repeated spellings.now t → ⊥) }
+/// Whether one of the spellings is the word.
+fn has_word(spellings: &[Spelling], word: &[u8]) -> bool
+    ensures { MatchBool result ((u : ℕ) × (u < length spellings.now) × HoldsAt (λ w. items w ≡ word.now) spellings.now u) (AllWithin (λ w. items w ≢ word.now) spellings.now 0 (length spellings.now)) }
 {
-    for u in 0..t {
-        if spellings[u].letters() == spellings[t].letters() {
-            return true;
-        }
-    }
-    false
+    spellings.iter().any(|spelling| is_word(spelling, word))
 }
 
 /// The first terminal that is spelled like an earlier one.
 pub(crate) fn first_repeated(spellings: &[Spelling]) -> Option<usize>
-    requires { (k : ℕ) → k < length spellings.now → Fitted (spelling_at spellings.now k) }
-    ensures { FirstOf 0 (length spellings.now) (Repeated spellings.now) result }
+    ensures { FirstOf 0 (length spellings.now) (Repeated (words spellings.now)) result }
 {
-    for t in 0..spellings.len() {
-        if is_repeated(spellings, t) {
+    for (t, spelling) in spellings.iter().enumerate() {
+        if has_word(&spellings[..t], spelling.as_slice()) {
             return Some(t);
         }
     }

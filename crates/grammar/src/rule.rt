@@ -1,9 +1,9 @@
 //! A rule as a grammar holds it.
+use crate::few::Few;
 
-/// A left symbol and a right side: the first `length` of `right`; the others are 255.
+/// A left symbol, and at most seven right symbols.
 #[derive(Clone, Copy)]
 pub(crate) struct Rule {
     pub(crate) left: u8,
-    pub(crate) length: u8,
-    pub(crate) right: [u8; 7],
+    pub(crate) right: Few<u8, 7>,
 }

@@ -1,35 +1,41 @@
 //! Reading the rules of a grammar sheet.
-ghost use Rattle.std.specs.Prelude.{◌≡◌, ℕ, ◌+◌, ◌<◌, ◌≤◌, length, MatchBool, MatchOption, MatchResult};
+ghost use Rattle.std.specs.Prelude.{◌≡◌, ℕ, ◌+◌, ◌<◌, ◌≤◌, ◌≢◌, length, MatchBool, MatchOption, MatchResult, slice_index};
 ghost use Rattle.grammar_format.specs.Breaches.{IllFormed};
 ghost use Rattle.grammar.specs.Heads.{Headed};
 ghost use Rattle.grammar.specs.Holding.{rule_block};
-ghost use Rattle.grammar.specs.Progress.{Stands, Strays, RulesRead};
+ghost use Rattle.grammar.specs.Lists.{items};
+ghost use Rattle.grammar.specs.Progress.{RulesRead};
 ghost use Rattle.grammar.specs.Refusals.{FirstFault};
 
 use crate::fault::GrammarFault;
+use crate::few::Few;
 use crate::header::Header;
 use crate::rule::Rule;
 
-/// Whether the byte may stand at the place d of a right side of this length, over so many symbols.
-fn may_stand(byte: u8, d: usize, length: u8, symbols: u8) -> bool
-    ensures { MatchBool result (Stands byte d length symbols) (Strays byte d length symbols) }
+/// Whether all bytes are symbols, of which there are so many.
+fn are_symbols(bytes: &[u8], symbols: u8) -> bool
+    ensures { MatchBool result ((d : ℕ) → d < length bytes.now → slice_index bytes.now d < symbols) ((d : ℕ) × (d < length bytes.now) × (symbols ≤ slice_index bytes.now d)) }
 {
-    if d < usize::from(length) {
-        byte < symbols
-    } else {
-        byte == 255
-    }
+    bytes.iter().all(|byte| *byte < symbols)
+}
+
+/// Whether all bytes are 255.
+fn are_blank(bytes: &[u8]) -> bool
+    ensures { MatchBool result ((d : ℕ) → d < length bytes.now → slice_index bytes.now d ≡ 255) ((d : ℕ) × (d < length bytes.now) × (slice_index bytes.now d ≢ 255)) }
+{
+    bytes.iter().all(|byte| *byte == 255)
 }
 
 impl Rule {
     /// The rule that nine bytes say, unless they are ill-formed.
-    pub(crate) fn read(block: &[u8], terminals: u8, symbols: u8) -> Option<Rule>
+    pub(crate) fn read(block: &[u8], header: Header) -> Option<Rule>
         requires { length block.now ≡ 9 }
-        ensures { MatchOption result (IllFormed terminals symbols block.now) (λ p. (rule_block p ≡ block.now) × (IllFormed terminals symbols block.now → ⊥)) }
+        ensures { MatchOption result (IllFormed header.terminals (header.terminals + header.nonterminals) block.now) (λ p. (rule_block p ≡ block.now) × (IllFormed header.terminals (header.terminals + header.nonterminals) block.now → ⊥)) }
     {
         let left = block[0];
         let length = block[1];
-        if left < terminals {
+        let symbols = header.symbols();
+        if left < header.terminals {
             return None;
         }
         if left >= symbols {
@@ -38,39 +44,37 @@ impl Rule {
         if length > 7 {
             return None;
         }
-        let mut right = [255; 7];
-        for d in 0..7 {
-            let symbol = block[2 + d];
-            if !may_stand(symbol, d, length, symbols) {
-                return None;
-            }
-            right[d] = symbol;
+        let (right, past) = block[2..].split_at(usize::from(length));
+        if !are_symbols(right, symbols) {
+            return None;
+        }
+        if !are_blank(past) {
+            return None;
         }
         Some(Rule {
             left,
-            length,
-            right,
+            right: Few::of(right, 255),
         })
     }
 }
 
 /// The rules of the sheet, in their order.
-pub(crate) fn read_rules(sheet: &[u8], header: Header) -> Result<[Rule; 64], GrammarFault>
+pub(crate) fn read_rules(sheet: &[u8], header: Header) -> Result<Few<Rule, 64>, GrammarFault>
     requires { Headed sheet.now header }
-    ensures { MatchResult result (λ ps. RulesRead sheet.now ps) (λ e. FirstFault sheet.now e) }
+    ensures { MatchResult result (λ ps. RulesRead sheet.now (items ps)) (λ e. FirstFault sheet.now e) }
 {
-    let symbols = header.terminals + header.nonterminals;
-    let mut rules = [Rule {
+    let blank = Rule {
         left: 0,
-        length: 0,
-        right: [255; 7],
-    }; 64];
+        right: Few::over([255; 7]),
+    };
+    let mut rules = Few::over([blank; 64]);
+    // By number: a fault names its rule.
     for r in 0..usize::from(header.rules) {
         let at = 12 + 9 * r;
-        let Some(rule) = Rule::read(&sheet[at..at + 9], header.terminals, symbols) else {
+        let Some(rule) = Rule::read(&sheet[at..at + 9], header) else {
             return Err(GrammarFault::RuleForm { rule: r });
         };
-        rules[r] = rule;
+        rules.push(rule);
     }
     Ok(rules)
 }

@@ -1,8 +1,5 @@
 //! A spelling as a grammar holds it.
+use crate::few::Few;
 
-/// The first `length` of `bytes`.
-#[derive(Clone, Copy)]
-pub(crate) struct Spelling {
-    pub(crate) length: u8,
-    pub(crate) bytes: [u8; 12],
-}
+/// At most twelve bytes.
+pub(crate) type Spelling = Few<u8, 12>;

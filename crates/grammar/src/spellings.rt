@@ -4,11 +4,12 @@ ghost use Rattle.grammar_format.specs.Keeping.{Letter, Digit, AllDigits};
 ghost use Rattle.grammar_format.specs.Fields.{first_spelling, behind_spelling};
 ghost use Rattle.grammar_format.specs.Breaches.{IllSpelled, Clean};
 ghost use Rattle.grammar.specs.Heads.{Headed};
-ghost use Rattle.grammar.specs.Holding.{letters, Fitted};
+ghost use Rattle.grammar.specs.Lists.{items};
 ghost use Rattle.grammar.specs.Progress.{SpellingsRead};
 ghost use Rattle.grammar.specs.Refusals.{FirstFault};
 
 use crate::fault::GrammarFault;
+use crate::few::Few;
 use crate::header::Header;
 use crate::spelling::Spelling;
 
@@ -37,24 +38,14 @@ fn is_letter(byte: u8) -> bool
 fn are_letters(bytes: &[u8]) -> bool
     ensures { MatchBool result ((k : ℕ) → k < length bytes.now → Letter (slice_index bytes.now k)) ((k : ℕ) × (k < length bytes.now) × (Letter (slice_index bytes.now k) → ⊥)) }
 {
-    for byte in bytes {
-        if !is_letter(*byte) {
-            return false;
-        }
-    }
-    true
+    bytes.iter().all(|byte| is_letter(*byte))
 }
 
 /// Whether all bytes are digits.
 fn are_digits(bytes: &[u8]) -> bool
     ensures { MatchBool result (AllDigits bytes.now) (AllDigits bytes.now → ⊥) }
 {
-    for byte in bytes {
-        if !byte.is_ascii_digit() {
-            return false;
-        }
-    }
-    true
+    bytes.iter().all(|byte| byte.is_ascii_digit())
 }
 
 /// Whether the bytes may spell the terminal.
@@ -76,34 +67,20 @@ fn may_spell(bytes: &[u8], terminal: usize) -> bool
     !are_digits(bytes)
 }
 
-impl Spelling {
-    /// The spelling of at most twelve bytes.
-    fn hold(bytes: &[u8]) -> Spelling
-        requires { length bytes.now ≤ 12 }
-        ensures same { letters result ≡ bytes.now }
-        ensures fitted { Fitted result }
-    {
-        let mut room = [0; 12];
-        room[0..bytes.len()].copy_from_slice(bytes);
-        Spelling {
-            length: bytes.len() as u8,
-            bytes: room,
-        }
-    }
-}
-
 /// The spellings of the sheet, one for each terminal.
-pub(crate) fn read_spellings(sheet: &[u8], header: Header) -> Result<[Spelling; 40], GrammarFault>
+pub(crate) fn read_spellings(
+    sheet: &[u8],
+    header: Header,
+) -> Result<Few<Spelling, 40>, GrammarFault>
     requires headed { Headed sheet.now header }
     requires clean { Clean sheet.now 15 }
-    ensures { MatchResult result (λ ws. SpellingsRead sheet.now ws) (λ e. FirstFault sheet.now e) }
+    ensures { MatchResult result (λ ws. SpellingsRead sheet.now (items ws)) (λ e. FirstFault sheet.now e) }
 {
     let terminals = usize::from(header.terminals);
-    let mut spellings = [Spelling {
-        length: 0,
-        bytes: [0; 12],
-    }; 40];
+    let blank: Spelling = Few::over([0; 12]);
+    let mut spellings = Few::over([blank; 40]);
     let mut rest = &sheet[12 + 9 * usize::from(header.rules)..];
+    // By number: each spelling begins where the one before it ends.
     for t in 0..terminals {
         let Some((bytes, remains)) = read_spelling(rest) else {
             return Err(GrammarFault::SpellingForm { terminal: t });
@@ -111,7 +88,7 @@ pub(crate) fn read_spellings(sheet: &[u8], header: Header) -> Result<[Spelling; 
         if !may_spell(bytes, t) {
             return Err(GrammarFault::SpellingForm { terminal: t });
         }
-        spellings[t] = Spelling::hold(bytes);
+        spellings.push(Few::of(bytes, 0));
         rest = remains;
     }
     if !rest.is_empty() {

@@ -1,31 +1,29 @@
 //! Writing a grammar sheet.
-ghost use Rattle.std.specs.Prelude.{◌≡◌, ℕ, ◌+◌, ◌<◌, ◌≤◌, length, MatchResult, slice_index};
-ghost use Rattle.std.specs.List.{flat_map};
-ghost use Rattle.grammar_format.specs.Sheets.{sheet_bytes, rules_bytes, spellings_bytes, rules_end, wide as halves};
-ghost use Rattle.grammar.specs.Holding.{rule_block, Fitted, spelling_piece};
-ghost use Rattle.grammar.specs.Meaning.{sheet};
+ghost use Rattle.std.specs.Prelude.{◌≡◌, ◌+◌, ◌≤◌, length, MatchResult, sum_by};
+ghost use Rattle.grammar_format.specs.Sheets.{sheet_bytes, rules_bytes, spellings_bytes, rules_end};
+ghost use Rattle.parsing.specs.Grammar.{rule_count};
+ghost use Rattle.grammar.specs.Holding.{rule_block, spelling_piece};
+ghost use Rattle.grammar.specs.Lists.{items};
+ghost use Rattle.grammar.specs.Meaning.{meaning, sheet};
 ghost use Rattle.grammar.specs.Writing.{Put, Writes, Short, Rewrites};
 
 use crate::fault::GrammarFault;
 use crate::grammar::Grammar;
 use crate::rule::Rule;
 use crate::spelling::Spelling;
-
-/// A number of 16 bits, its high byte first.
-fn wide(number: usize) -> [u8; 2]
-    requires { number < 65536 }
-    ensures { result ≡ halves number }
-{
-    [(number / 256) as u8, (number % 256) as u8]
-}
+use sheet_head::head_bytes;
 
 impl Rule {
     /// The nine bytes of the rule.
     fn block(&self) -> [u8; 9]
         ensures { result ≡ rule_block self.now }
     {
-        let [a, b, c, d, e, f, g] = self.right;
-        [self.left, self.length, a, b, c, d, e, f, g]
+        let right = self.right.as_slice();
+        let mut bytes = [255; 9];
+        bytes[0] = self.left;
+        bytes[1] = self.right.count();
+        bytes[2..2 + right.len()].copy_from_slice(right);
+        bytes
     }
 }
 
@@ -37,40 +35,37 @@ fn put(room: &mut [u8], at: usize, bytes: &[u8])
     room[at..at + bytes.len()].copy_from_slice(bytes);
 }
 
-/// Puts six numbers at the front of the room.
-fn put_numbers(room: &mut [u8], numbers: [usize; 6])
-    requires space { 12 ≤ length room.old }
-    requires small { (k : ℕ) → k < 6 → slice_index numbers k < 65536 }
-    ensures { Put room.old 0 (flat_map halves numbers) room.new }
+/// Puts the length of the spelling and its bytes from an offset on, and answers the offset behind them.
+fn put_spelling(room: &mut [u8], at: usize, spelling: &Spelling) -> usize
+    requires { at + length (spelling_piece spelling.now) ≤ length room.old }
+    ensures next { result ≡ at + length (spelling_piece spelling.now) }
+    ensures put { Put room.old at (spelling_piece spelling.now) room.new }
 {
-    for k in 0..6 {
-        put(room, 2 * k, &wide(numbers[k]));
-    }
+    let letters = spelling.as_slice();
+    put(room, at, &[spelling.count()]);
+    put(room, at + 1, letters);
+    at + 1 + letters.len()
 }
 
-impl Spelling {
-    /// Puts the length of the spelling and its bytes from an offset on, and answers the offset behind them.
-    fn put(&self, room: &mut [u8], at: usize) -> usize
-        requires fitted { Fitted self.now }
-        requires space { at + length (spelling_piece self.now) ≤ length room.old }
-        ensures next { result ≡ at + length (spelling_piece self.now) }
-        ensures put { Put room.old at (spelling_piece self.now) room.new }
-    {
-        let letters = self.letters();
-        put(room, at, &[self.length]);
-        put(room, at + 1, letters);
-        at + 1 + letters.len()
-    }
+/// How many bytes the spellings have in a sheet.
+fn spellings_len(spellings: &[Spelling]) -> u16
+    requires { length spellings.now ≤ 40 }
+    ensures { result ≡ sum_by (λ w. length (spelling_piece w)) spellings.now }
+{
+    spellings
+        .iter()
+        .map(|spelling| 1 + u16::from(spelling.count()))
+        .sum()
 }
 
 impl Grammar {
     /// Puts the rules behind the header.
     fn put_rules(&self, room: &mut [u8])
-        requires { rules_end self.now.count ≤ length room.old }
+        requires { rules_end (rule_count (meaning self.now)) ≤ length room.old }
         ensures { Put room.old 12 (rules_bytes (sheet self.now)) room.new }
     {
-        for r in 0..usize::from(self.count) {
-            put(room, 12 + 9 * r, &self.rules[r].block());
+        for (r, rule) in self.rules.as_slice().iter().enumerate() {
+            put(room, 12 + 9 * r, &rule.block());
         }
     }
 
@@ -80,9 +75,17 @@ impl Grammar {
         ensures { Put room.old start (spellings_bytes (sheet self.now)) room.new }
     {
         let mut at = start;
-        for t in 0..usize::from(self.terminals) {
-            at = self.spellings[t].put(room, at);
+        for spelling in self.spellings.as_slice() {
+            at = put_spelling(room, at, spelling);
         }
+    }
+
+    /// How many bytes the sheet of the grammar has, as its header tells.
+    fn size(&self) -> u16
+        ensures value { result ≡ length (sheet_bytes (sheet self.now)) }
+        ensures bound { result ≤ 1108 }
+    {
+        12 + 9 * u16::from(self.rules()) + spellings_len(self.spellings.as_slice())
     }
 
     /// How many bytes the sheet of the grammar has.
@@ -90,11 +93,7 @@ impl Grammar {
         ensures value { result ≡ length (sheet_bytes (sheet self.now)) }
         ensures bound { result ≤ 1108 }
     {
-        let mut need = 12 + 9 * usize::from(self.count);
-        for t in 0..usize::from(self.terminals) {
-            need += 1 + usize::from(self.spellings[t].length);
-        }
-        need
+        usize::from(self.size())
     }
 
     /// Writes the sheet of the grammar to the front of the room, and answers how many bytes it has; bytes past it stay. A room that is too
@@ -102,17 +101,22 @@ impl Grammar {
     pub fn write(&self, room: &mut [u8]) -> Result<usize, GrammarFault>
         ensures { MatchResult result (λ n. Writes (sheet_bytes (sheet self.now)) room.old room.new n) (λ e. Short (sheet_bytes (sheet self.now)) room.old room.new e) }
     {
-        let need = self.sheet_len();
+        let size = self.size();
+        let need = usize::from(size);
         if room.len() < need {
             return Err(GrammarFault::RoomShort { need });
         }
-        let terminals = usize::from(self.terminals);
-        let nonterminals = usize::from(self.nonterminals);
-        let rules = usize::from(self.count);
+        let terminals = u16::from(self.terminals());
+        let nonterminals = u16::from(self.nonterminals);
+        let rules = u16::from(self.rules());
         let end = 12 + 9 * rules;
-        put_numbers(room, [need, terminals, nonterminals, rules, 12, end]);
+        put(
+            room,
+            0,
+            &head_bytes([size, terminals, nonterminals, rules, 12, end]),
+        );
         self.put_rules(room);
-        self.put_spellings(room, end);
+        self.put_spellings(room, usize::from(end));
         Ok(need)
     }
 }

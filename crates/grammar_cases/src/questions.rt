@@ -1,6 +1,7 @@
 //! What a grammar answers.
 use crate::sheets::{P, Q};
 use grammar::Grammar;
+use std::array;
 use std::process::Abort;
 use std::test::Fail;
 
@@ -44,10 +45,7 @@ static Q_SPELLINGS: [Spelling; 4] = [
 
 /// What the grammar answers about a rule.
 fn rule_of(grammar: &Grammar, rule: usize) -> Rule {
-    let mut right = [0; 8];
-    for place in 0..8 {
-        right[place] = grammar.right(rule, place);
-    }
+    let right = array::from_fn(|place| grammar.right(rule, place));
     (rule, grammar.left(rule), grammar.length(rule), right)
 }
 

@@ -22,6 +22,7 @@ pub static Q: [u8; 53] = *b"\
     \x00\
     \x03tin";
 
+// A room with its length: a `Vec` would want an allocator, and a `?` for each part that a case adds.
 /// A sheet that is put together: the rules one by one, then the spellings, and at last the header. There is room for the longest sheet.
 #[derive(Clone, Copy)]
 pub struct Draft {
@@ -53,8 +54,8 @@ impl Draft {
         self.rules = self.rules.wrapping_add(1);
         self.add(left);
         self.add((right.len() % 256) as u8);
-        for place in 0..7 {
-            self.add(right.get(place).copied().unwrap_or(255));
+        for symbol in right.iter().chain(&[255; 7]).take(7) {
+            self.add(*symbol);
         }
     }
 

@@ -4,17 +4,9 @@
 #[cfg(test)]
 mod tests;
 
+use file_bytes::bytes_of;
 use inspection::report;
-use std::io::ErrorKind;
-use std::{fs, io};
-
-/// The bytes of a file; none where there is no such file.
-fn bytes_of(rt: &HostRuntime, path: &str) -> io::Result<Vec<u8>> {
-    match fs::read(rt, path) {
-        Err(e) if e.kind() == ErrorKind::NotFound => Ok(Vec::new(rt.alloc())),
-        result => result,
-    }
-}
+use std::io;
 
 fn run(rt: &HostRuntime) -> io::Result<()> {
     let sheet = bytes_of(rt, "grammar.bin")?;

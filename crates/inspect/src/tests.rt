@@ -1,6 +1,6 @@
 //! Reports of a small sheet, and of the same sheet with one thing wrong.
 use grammar::GrammarFault;
-use inspection::{RefusalLine, report};
+use inspection::report;
 use std::test::Fail;
 
 /// The terminals amount, tea and `and`; the rules goal -> blend, blend -> amount tea, blend -> blend and blend.
@@ -148,7 +148,9 @@ fn refuses_an_empty_sheet(rt: HostRuntime) -> Result<(), Fail> {
 
 #[test]
 fn shows_a_short_room(rt: HostRuntime) -> Result<(), Fail> {
-    let line = RefusalLine(GrammarFault::RoomShort { need: 48 }.refusal()).to_string(rt.alloc())?;
+    let line = GrammarFault::RoomShort { need: 48 }
+        .refusal()
+        .to_string(rt.alloc())?;
     assert_eq!(rt; line.as_str(), "refused 31 table 48 0");
     Ok(())
 }

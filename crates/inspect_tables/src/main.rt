@@ -5,24 +5,21 @@
 #[cfg(test)]
 mod table_tests;
 
-use std::io::ErrorKind;
-use std::{fs, io};
+use file_bytes::bytes_of;
+use std::io;
 use table_inspection::full_report;
 
-/// The bytes of a file; none where there is no such file.
-fn bytes_of(rt: &HostRuntime, path: &str) -> io::Result<Vec<u8>> {
-    match fs::read(rt, path) {
-        Err(e) if e.kind() == ErrorKind::NotFound => Ok(Vec::new(rt.alloc())),
-        Err(e) => {
-            eprintln!(rt; "inspect_tables: {path}: {e}")?;
-            Err(e)
-        }
-        result => result,
+/// The bytes of a sheet's file; an error is shown with the name of the file.
+fn sheet_of(rt: &HostRuntime, path: &str) -> io::Result<Vec<u8>> {
+    let result = bytes_of(rt, path);
+    if let Err(e) = &result {
+        eprintln!(rt; "inspect_tables: {path}: {e}")?;
     }
+    result
 }
 
 fn main(rt: HostRuntime) -> io::Result<()> {
-    let grammar = bytes_of(&rt, "grammar.bin")?;
-    let table = bytes_of(&rt, "table.bin")?;
+    let grammar = sheet_of(&rt, "grammar.bin")?;
+    let table = sheet_of(&rt, "table.bin")?;
     rt.print(full_report(rt.alloc(), grammar.as_slice(), table.as_slice())?)
 }

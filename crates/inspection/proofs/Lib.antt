@@ -1,7 +1,6 @@
-pub mod Comparing
+pub mod Joining
 pub mod Keepers
 pub mod Naming
 pub mod Places
 pub mod Printing
 pub mod Ruling
-pub mod Turns

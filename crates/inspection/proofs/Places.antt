@@ -1,8 +1,10 @@
 -- Where the parts of a sheet stand, read off any bytes.
-use Rattle.std.proofs.Common.{◌≡◌, ℕ, zero, suc, ◌+◌, ◌-◌, ◌*◌, ◌^◌, ◌<◌, min, List, [], ◌∷◌, length, get_or, take, drop, sym, ap, ◌∙◌, add-zero, add-suc, add-one, arith}
+use Rattle.std.proofs.Common.{◌≡◌, ℕ, zero, suc, ◌+◌, ◌-◌, ◌*◌, ◌^◌, ◌<◌, ◌≤◌, min, List, [], length, take, drop, sym, ap, ◌∙◌, add-zero, add-suc, add-one, arith}
 use native.Mathlib.Decide.{dec_le}
-use Rattle.std.proofs.lemmas.List.{drop_all, take_all, take_rest}
-use Rattle.grammar_format.specs.Fields.{block, remains, first_spelling, behind_spelling}
+use Rattle.std.proofs.lemmas.List.{drop_all, take_all}
+use Rattle.grammar_format.specs.Fields.{rules, block, remains, behind_spelling}
+use Rattle.inspection.specs.Heads.{Tells}
+use Rattle.inspection.specs.declared.fields.Header.{Header}
 
 -- An offset that is too large for a number of 64 bits lies past the end.
 pub drop_cut : (xs : List ℕ) (n m : ℕ) → length xs < 2 ^ 64 → m ≡ min n (2 ^ 64 - 1) → drop m xs ≡ drop n xs
@@ -25,13 +27,6 @@ take_cut xs n m e =
       | no h ↦ take_all m xs (omega arith) ∙ sym (take_all n xs (omega arith))
     ]
 
-pub drop_end : (xs : List ℕ) (n m : ℕ) → m ≡ min n (length xs) → drop m xs ≡ drop n xs
-drop_end xs n m e =
-    elim (dec_le n (length xs)) [
-      | yes h ↦ let i : m ≡ n = omega arith in ap (λ k. drop k xs) i
-      | no h ↦ drop_all m xs (omega arith) ∙ sym (drop_all n xs (omega arith))
-    ]
-
 -- Once nothing remains, nothing remains.
 pub remains_none : (b : List ℕ) (k t : ℕ) → remains b t ≡ [] → remains b (t + k) ≡ []
 unfolding remains
@@ -42,16 +37,11 @@ pub remains_more : (b : List ℕ) (t : ℕ) → behind_spelling (remains b t) �
 unfolding remains
 remains_more b t = ap (remains b) (sym (add-one t))
 
--- What is read of a spelling whose length is cut at the end.
-abbrev behind_first : List ℕ → List ℕ
-behind_first xs = take (length xs - 1) (drop 1 xs)
-
-pub first_cut : (xs : List ℕ) (n m : ℕ) → n ≡ get_or xs 0 0 → m ≡ min n (length (behind_first xs))
-    → take m (behind_first xs) ≡ first_spelling xs
-first_cut [] n m e i = take_cut [] n m i ∙ take_all n [] (omega arith)
-first_cut (x ∷ xs) n m e i = take_cut (behind_first (x ∷ xs)) n m i ∙ ap (take n) (take_rest (x ∷ xs) 1) ∙ ap (λ k. take k xs) e
-
-pub behind_cut : (xs : List ℕ) (n m : ℕ) → n ≡ get_or xs 0 0 → m ≡ min n (length (behind_first xs))
-    → drop m (behind_first xs) ≡ behind_spelling xs
-behind_cut [] n m e i = drop_end [] n m i ∙ drop_all n [] (omega arith)
-behind_cut (x ∷ xs) n m e i = drop_end (behind_first (x ∷ xs)) n m i ∙ ap (drop n) (take_rest (x ∷ xs) 1) ∙ ap (λ k. drop k xs) e
+-- The spellings stand where the head tells, and nothing does where there is no head.
+pub rules_told : (b : List ℕ) (h : Header) (n : ℕ) → n ≡ h.rules → (12 ≤ length b → Tells b h) → drop (12 + 9 * n) b ≡ remains b 0
+unfolding remains
+rules_told b h n e t =
+    elim (dec_le 12 (length b)) [
+      | yes l ↦ ap (λ r. drop (12 + 9 * r) b) (e ∙ (t l).rules_are)
+      | no l ↦ drop_all (12 + 9 * n) b (omega arith) ∙ sym (drop_all (12 + 9 * rules b) b (omega arith))
+    ]

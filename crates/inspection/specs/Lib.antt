@@ -1,5 +1,6 @@
-pub mod Lines
+pub mod Heads
 pub mod Listings
 pub mod Names
+pub mod Pieces
 pub mod Reports
 pub mod Rules

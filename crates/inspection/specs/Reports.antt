@@ -7,7 +7,7 @@ use Rattle.grammar_format.specs.Sheets.{Sheet, sheet_bytes}
 use Rattle.grammar_format.specs.Keeping.{Keeps}
 use Rattle.grammar.specs.Refusals.{Refused, refusal}
 use Rattle.grammar.specs.declared.fault.GrammarFault.{GrammarFault}
-use Rattle.inspection.specs.Lines.{refusal_line}
+use Rattle.grammar.specs.Lines.{refusal_line}
 use Rattle.inspection.specs.Listings.{listing}
 
 abbrev pub verdict_text : Bool → List ℕ

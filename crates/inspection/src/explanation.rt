@@ -23,153 +23,137 @@ impl fmt::Display for Numbers<'_> {
     }
 }
 
-/// The line on what is wrong with a header.
-fn explain_header<W: fmt::Write>(
-    f: &mut fmt::Formatter<W>,
-    fault: GrammarFault,
-    sheet: &[u8],
-) -> fmt::Result {
-    let size = sheet.len();
-    let Header {
-        length,
-        terminals,
-        nonterminals,
-        rules,
-        rules_at,
-        spellings_at,
-    } = Header::of(sheet);
-    match fault {
-        GrammarFault::CountRange => {
-            writeln!(
+impl Explanation<'_> {
+    /// The line on what is wrong with a header.
+    fn explain_header<W: fmt::Write>(&self, f: &mut fmt::Formatter<W>) -> fmt::Result {
+        let size = self.sheet.len();
+        let Header {
+            length,
+            terminals,
+            nonterminals,
+            rules,
+            rules_at,
+            spellings_at,
+        } = Header::of(self.sheet);
+        match self.fault {
+            GrammarFault::CountRange => writeln!(
                 f,
                 "The header tells terminals: {terminals}, nonterminals: {nonterminals}, rules: {rules}."
-            )
-        }
-        GrammarFault::Offset => {
-            writeln!(
+            ),
+            GrammarFault::Offset => writeln!(
                 f,
                 "The header tells rules: {rules}, from byte {rules_at} on, and spellings from byte {spellings_at} on; the length of the sheet is {size}."
-            )
-        }
-        _ if size < 12 => writeln!(
-            f,
-            "The length of the sheet is {size}, too little for a header."
-        ),
-        _ => writeln!(
-            f,
-            "The length of the sheet is {size}, and its header tells {length}."
-        ),
-    }
-}
-
-/// The line on what is wrong with a rule.
-fn explain_rule<W: fmt::Write>(
-    f: &mut fmt::Formatter<W>,
-    sheet: &[u8],
-    rule: usize,
-) -> fmt::Result {
-    let Header {
-        terminals,
-        nonterminals,
-        ..
-    } = Header::of(sheet);
-    let symbols = terminals.saturating_add(nonterminals);
-    let bytes = Numbers(block(sheet, rule));
-    writeln!(
-        f,
-        "Rule {rule} is the bytes{bytes}; symbols are below {symbols}, and terminals below {terminals}."
-    )
-}
-
-/// The line on what is wrong with the spelling of a terminal.
-fn explain_spelling<W: fmt::Write>(
-    f: &mut fmt::Formatter<W>,
-    sheet: &[u8],
-    terminal: usize,
-) -> fmt::Result {
-    let rest = remains(sheet, terminal);
-    let left = rest.len();
-    if terminal == Header::of(sheet).terminals {
-        return writeln!(
-            f,
-            "Bytes left over after the spelling of the last terminal: {left}."
-        );
-    }
-    match rest {
-        [] => writeln!(
-            f,
-            "The sheet ends before the spelling of terminal {terminal}."
-        ),
-        [length, ..] => {
-            let bytes = Numbers(split_spelling(rest).0);
-            writeln!(
+            ),
+            _ if size < 12 => writeln!(
                 f,
-                "Terminal {terminal} is spelled with length {length} and the bytes{bytes}."
-            )
-        }
-    }
-}
-
-/// The rule that a fault breaks.
-fn rule_of(fault: GrammarFault) -> &'static str {
-    match fault {
-        GrammarFault::WholeLength =>
-            "A header has 12 bytes, and its first number is the length of the whole sheet.",
-        GrammarFault::CountRange =>
-            "A sheet has 1 to 40 terminals, 2 to 24 nonterminals and 2 to 64 rules.",
-        GrammarFault::Offset =>
-            "The rules begin at byte 12 and have nine bytes each, and the spellings follow them.",
-        GrammarFault::RuleForm { .. } => {
-            "A rule is a nonterminal, a length from 0 to 7, and seven right symbols: symbols of the grammar up to the length, and 255 past it."
-        }
-        GrammarFault::GoalRule { .. } => {
-            "The goal is the first nonterminal. It stands on the left of rule 0, with one other nonterminal on the right, and nowhere else."
-        }
-        GrammarFault::SpellingForm { .. } => {
-            "The amount, terminal 0, has length 0. Any other spelling has 1 to 12 bytes from 33 to 126, none of them 35 and not all digits, and the last ends the sheet."
-        }
-        GrammarFault::SpellingRepeated { .. } => "No two terminals are spelled alike.",
-        GrammarFault::Unproductive { .. } =>
-            "Every nonterminal, the goal too, derives some list of terminals.",
-        GrammarFault::RoomShort { .. } => "A sheet is written whole or not at all.",
-    }
-}
-
-/// The line on what is wrong, and where.
-fn explain<W: fmt::Write>(
-    f: &mut fmt::Formatter<W>,
-    fault: GrammarFault,
-    sheet: &[u8],
-) -> fmt::Result {
-    match fault {
-        GrammarFault::RuleForm { rule } | GrammarFault::GoalRule { rule } => explain_rule(
-            f, sheet, rule,
-        ),
-        GrammarFault::SpellingForm { terminal } => explain_spelling(f, sheet, terminal),
-        GrammarFault::SpellingRepeated { terminal } => {
-            let bytes = Numbers(split_spelling(remains(sheet, terminal)).0);
-            writeln!(
+                "The length of the sheet is {size}, too little for a header."
+            ),
+            _ => writeln!(
                 f,
-                "Terminal {terminal} is spelled with the bytes{bytes}, as a terminal before it is."
-            )
+                "The length of the sheet is {size}, and its header tells {length}."
+            ),
         }
-        GrammarFault::Unproductive { nonterminal } => {
-            writeln!(
+    }
+
+    /// The line on what is wrong with a rule.
+    fn explain_rule<W: fmt::Write>(&self, f: &mut fmt::Formatter<W>, rule: usize) -> fmt::Result {
+        let Header {
+            terminals,
+            nonterminals,
+            ..
+        } = Header::of(self.sheet);
+        let symbols = u32::from(terminals) + u32::from(nonterminals);
+        let bytes = Numbers(block(self.sheet, rule));
+        writeln!(
+            f,
+            "Rule {rule} is the bytes{bytes}; symbols are below {symbols}, and terminals below {terminals}."
+        )
+    }
+
+    /// The line on what is wrong with the spelling of a terminal.
+    fn explain_spelling<W: fmt::Write>(
+        &self,
+        f: &mut fmt::Formatter<W>,
+        terminal: usize,
+    ) -> fmt::Result {
+        let rest = remains(self.sheet, terminal);
+        let left = rest.len();
+        if terminal == usize::from(Header::of(self.sheet).terminals) {
+            return writeln!(
+                f,
+                "Bytes left over after the spelling of the last terminal: {left}."
+            );
+        }
+        match rest {
+            [] => writeln!(
+                f,
+                "The sheet ends before the spelling of terminal {terminal}."
+            ),
+            [length, ..] => {
+                let bytes = Numbers(split_spelling(rest).0);
+                writeln!(
+                    f,
+                    "Terminal {terminal} is spelled with length {length} and the bytes{bytes}."
+                )
+            }
+        }
+    }
+
+    /// The line on what is wrong, and where.
+    fn explain<W: fmt::Write>(&self, f: &mut fmt::Formatter<W>) -> fmt::Result {
+        match self.fault {
+            GrammarFault::RuleForm { rule } | GrammarFault::GoalRule { rule } => self.explain_rule(
+                f, rule,
+            ),
+            GrammarFault::SpellingForm { terminal } => self.explain_spelling(f, terminal),
+            GrammarFault::SpellingRepeated { terminal } => {
+                let bytes = Numbers(split_spelling(remains(self.sheet, terminal)).0);
+                writeln!(
+                    f,
+                    "Terminal {terminal} is spelled with the bytes{bytes}, as a terminal before it is."
+                )
+            }
+            GrammarFault::Unproductive { nonterminal } => writeln!(
                 f,
                 "Nonterminal {nonterminal} derives no list of terminals: each of its rules needs a symbol that derives none."
-            )
+            ),
+            GrammarFault::RoomShort { need } => writeln!(
+                f,
+                "The room to write the sheet has fewer than {need} bytes."
+            ),
+            _ => self.explain_header(f),
         }
-        GrammarFault::RoomShort { need } => writeln!(
-            f,
-            "The room to write the sheet has fewer than {need} bytes."
-        ),
-        _ => explain_header(f, fault, sheet),
+    }
+
+    /// The rule that the fault breaks.
+    fn rule(&self) -> &'static str {
+        match self.fault {
+            GrammarFault::WholeLength =>
+                "A header has 12 bytes, and its first number is the length of the whole sheet.",
+            GrammarFault::CountRange =>
+                "A sheet has 1 to 40 terminals, 2 to 24 nonterminals and 2 to 64 rules.",
+            GrammarFault::Offset =>
+                "The rules begin at byte 12 and have nine bytes each, and the spellings follow them.",
+            GrammarFault::RuleForm { .. } => {
+                "A rule is a nonterminal, a length from 0 to 7, and seven right symbols: symbols of the grammar up to the length, and 255 past it."
+            }
+            GrammarFault::GoalRule { .. } => {
+                "The goal is the first nonterminal. It stands on the left of rule 0, with one other nonterminal on the right, and nowhere else."
+            }
+            GrammarFault::SpellingForm { .. } => {
+                "The amount, terminal 0, has length 0. Any other spelling has 1 to 12 bytes from 33 to 126, none of them 35 and not all digits, and the last ends the sheet."
+            }
+            GrammarFault::SpellingRepeated { .. } => "No two terminals are spelled alike.",
+            GrammarFault::Unproductive { .. } =>
+                "Every nonterminal, the goal too, derives some list of terminals.",
+            GrammarFault::RoomShort { .. } => "A sheet is written whole or not at all.",
+        }
     }
 }
 
 impl fmt::Display for Explanation<'_> {
     fn fmt<W: fmt::Write>(&self, f: &mut fmt::Formatter<W>) -> fmt::Result {
-        explain(f, self.fault, self.sheet)?;
-        writeln!(f, "{}", rule_of(self.fault))
+        self.explain(f)?;
+        writeln!(f, "{}", self.rule())
     }
 }

@@ -1,57 +1,42 @@
 //! Where the parts of a grammar sheet stand, read off any bytes, whether they keep the rules or not.
-ghost use Rattle.std.specs.Prelude.{◌≡◌, ◌≤◌, drop, slice_index};
-ghost use Rattle.grammar_format.specs.Fields.{number as told, terminals as terminal_count, nonterminals as nonterminal_count, rules as rule_count};
+ghost use Rattle.std.specs.Prelude.{◌≡◌, ◌≤◌, length, drop};
 ghost use Rattle.grammar_format.specs.Fields.{block as block_of, remains as remains_of, first_spelling, behind_spelling};
+ghost use Rattle.inspection.specs.Heads.{Tells};
 
-/// The byte at an offset; 0 past the end.
-fn byte(sheet: &[u8], at: usize) -> usize
-    ensures value { result ≡ slice_index sheet.now at }
-    ensures bound { result ≤ 255 }
-{
-    if at < sheet.len() {
-        usize::from(sheet[at])
-    } else {
-        0
-    }
-}
-
-/// One of the six numbers of a header, its high byte first.
-fn number(sheet: &[u8], at: usize) -> usize
-    requires { at ≤ 10 }
-    ensures value { result ≡ told sheet.now at }
-    ensures bound { result ≤ 65535 }
-{
-    byte(sheet, at) * 256 + byte(sheet, at + 1)
-}
+use sheet_head::read_head;
 
 /// What a header tells.
 #[derive(Clone, Copy)]
 pub(crate) struct Header {
-    pub(crate) length: usize,
-    pub(crate) terminals: usize,
-    pub(crate) nonterminals: usize,
-    pub(crate) rules: usize,
-    pub(crate) rules_at: usize,
-    pub(crate) spellings_at: usize,
+    pub(crate) length: u16,
+    pub(crate) terminals: u16,
+    pub(crate) nonterminals: u16,
+    pub(crate) rules: u16,
+    pub(crate) rules_at: u16,
+    pub(crate) spellings_at: u16,
 }
 
 impl Header {
-    /// The six numbers of a sheet.
+    /// The six numbers of a sheet; zeros where it is too short for them.
     pub(crate) fn of(sheet: &[u8]) -> Header
-        ensures length { result.length ≡ told sheet.now 0 }
-        ensures terminals { result.terminals ≡ terminal_count sheet.now }
-        ensures nonterminals { result.nonterminals ≡ nonterminal_count sheet.now }
-        ensures rules { result.rules ≡ rule_count sheet.now }
-        ensures rules_at { result.rules_at ≡ told sheet.now 8 }
-        ensures spellings_at { result.spellings_at ≡ told sheet.now 10 }
+        ensures { 12 ≤ length sheet.now → Tells sheet.now result }
     {
+        let numbers = read_head(sheet).unwrap_or([0; 6]);
+        let [
+            length,
+            terminals,
+            nonterminals,
+            rules,
+            rules_at,
+            spellings_at,
+        ] = numbers;
         Header {
-            length: number(sheet, 0),
-            terminals: number(sheet, 2),
-            nonterminals: number(sheet, 4),
-            rules: number(sheet, 6),
-            rules_at: number(sheet, 8),
-            spellings_at: number(sheet, 10),
+            length,
+            terminals,
+            nonterminals,
+            rules,
+            rules_at,
+            spellings_at,
         }
     }
 }
@@ -60,11 +45,7 @@ impl Header {
 fn behind(sheet: &[u8], skipped: usize) -> &[u8]
     ensures { result.now ≡ drop skipped sheet.now }
 {
-    if skipped <= sheet.len() {
-        &sheet[skipped..]
-    } else {
-        &[]
-    }
+    sheet.get(skipped..).unwrap_or(&[])
 }
 
 /// The nine bytes of a rule, or what there is of them.
@@ -72,7 +53,7 @@ pub(crate) fn block(sheet: &[u8], rule: usize) -> &[u8]
     ensures { result.now ≡ block_of sheet.now rule }
 {
     let rest = behind(sheet, rule.saturating_mul(9).saturating_add(12));
-    if rest.len() < 9 { rest } else { &rest[0..9] }
+    &rest[..rest.len().min(9)]
 }
 
 /// The first spelling of what remains of a sheet, and what then remains.
@@ -90,7 +71,7 @@ pub(crate) fn split_spelling(rest: &[u8]) -> (&[u8], &[u8])
 pub(crate) fn remains(sheet: &[u8], terminal: usize) -> &[u8]
     ensures { result.now ≡ remains_of sheet.now terminal }
 {
-    let mut rest = behind(sheet, 12 + 9 * number(sheet, 6));
+    let mut rest = behind(sheet, 12 + 9 * usize::from(Header::of(sheet).rules));
     for _ in 0..terminal {
         if rest.is_empty() {
             return rest;

@@ -5,13 +5,11 @@ mod explanation;
 mod fields;
 mod listing;
 mod name;
-mod refusal;
 mod reporting;
 mod rule;
 
 pub use explanation::Explanation;
 pub use listing::{Listing, RuleLine};
 pub use name::Name;
-pub use refusal::RefusalLine;
 pub use reporting::report;
-pub use rule::RuleText;
+pub use rule::{RightSymbols, RuleText};

@@ -71,6 +71,7 @@ impl fmt::Display for SymbolLines<'_> {
 
     fn fmt<W: fmt::Write>(&self, f: &mut fmt::Formatter<W>) -> fmt::Result {
         let grammar = self.grammar;
+        // A loop of its own, as each list here has: a trait of numbered pieces would want a struct and an impl for each.
         for symbol in self.from..self.to {
             writeln!(f, "{}", SymbolLine { grammar, symbol })?;
         }
@@ -89,6 +90,7 @@ impl fmt::Display for RuleLines<'_> {
 
     fn fmt<W: fmt::Write>(&self, f: &mut fmt::Formatter<W>) -> fmt::Result {
         let grammar = self.grammar;
+        // A loop of its own, as each list here has: a trait of numbered pieces would want a struct and an impl for each.
         for rule in 0..usize::from(grammar.rules()) {
             writeln!(f, "{}", RuleLine { grammar, rule })?;
         }

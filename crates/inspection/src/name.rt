@@ -25,10 +25,7 @@ pub enum Name<'a> {
 fn text(spelling: &[u8]) -> &str
     ensures { IsUtf8 spelling.now → result.now ≡ spelling.now }
 {
-    match std::str::from_utf8(spelling) {
-        Ok(text) => text,
-        Err(_) => "?",
-    }
+    std::str::from_utf8(spelling).unwrap_or("?")
 }
 
 impl Name<'_> {

@@ -3,13 +3,12 @@ ghost use Rattle.std.specs.Prelude.{◌≡◌, ℕ, true, List, ◌++◌, length
 ghost use Rattle.grammar_format.specs.Sheets.{sheet_bytes};
 ghost use Rattle.grammar.specs.Meaning.{sheet as sheet_of};
 ghost use Rattle.grammar.specs.Refusals.{refusal};
-ghost use Rattle.inspection.specs.Lines.{refusal_line};
+ghost use Rattle.grammar.specs.Lines.{refusal_line};
 ghost use Rattle.inspection.specs.Listings.{listing as listing_of};
 ghost use Rattle.inspection.specs.Reports.{Report, verdict_text, closing_line};
 
 use crate::explanation::Explanation;
 use crate::listing::Listing;
-use crate::refusal::RefusalLine;
 use grammar::{Grammar, GrammarFault};
 use std::alloc::{AllocError, Global};
 use std::fmt;
@@ -18,10 +17,7 @@ use std::fmt;
 fn is_written_back(grammar: &Grammar, room: &mut [u8], sheet: &[u8]) -> bool
     ensures { length room.old ≡ length sheet.now → Decides result (sheet_bytes (sheet_of grammar.now) ≡ sheet.now) }
 {
-    match grammar.write(room) {
-        Ok(written) => written == sheet.len() && &room[0..] == sheet,
-        Err(_) => false,
-    }
+    grammar.write(room) == Ok(sheet.len()) && &room[0..] == sheet
 }
 
 /// Whether what was written is the sheet, in words.
@@ -67,7 +63,7 @@ fn listed(heap: Global, grammar: &Grammar, sheet: &[u8]) -> Result<String, Alloc
 fn refused(heap: Global, fault: GrammarFault, sheet: &[u8]) -> Result<String, AllocError>
     ensures { IfOk result (λ text. (words : List ℕ) × (string_bytes text ≡ refusal_line (refusal fault) ++ (codes "\n" ++ words))) }
 {
-    let line = RefusalLine(fault.refusal());
+    let line = fault.refusal();
     let words = Explanation { fault, sheet }.to_string(heap)?;
     format!(in heap; "{line}\n{words}")
 }

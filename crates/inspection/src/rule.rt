@@ -1,6 +1,8 @@
 //! Rules in readable notation.
+ghost use Rattle.std.specs.Prelude.{◌-◌, Some};
 ghost use Rattle.grammar.specs.Meaning.{sheet};
-ghost use Rattle.inspection.specs.Rules.{rule_right, rule_text, if_rule};
+ghost use Rattle.inspection.specs.Pieces.{each};
+ghost use Rattle.inspection.specs.Rules.{right_piece, rule_text, if_rule};
 
 use crate::name::Name;
 use grammar::Grammar;
@@ -13,22 +15,21 @@ pub struct RuleText<'a> {
     pub rule: usize,
 }
 
-/// The right side of a rule, each symbol behind a blank.
+/// The right symbols of a rule from one place on and up to another, each behind a blank.
 #[derive(Clone, Copy)]
-struct RightSide<'a> {
-    grammar: &'a Grammar,
-    rule: usize,
+pub struct RightSymbols<'a> {
+    pub grammar: &'a Grammar,
+    pub rule: usize,
+    pub from: usize,
+    pub to: usize,
 }
 
-impl fmt::Display for RightSide<'_> {
-    ghost output = { λ x. if_rule (sheet x.grammar.now) rule_right x.rule };
+impl fmt::Display for RightSymbols<'_> {
+    ghost output = { λ x. Some (each (right_piece (sheet x.grammar.now) x.rule) x.from (x.to - x.from)) };
 
     fn fmt<W: fmt::Write>(&self, f: &mut fmt::Formatter<W>) -> fmt::Result {
-        let length = usize::from(self.grammar.length(self.rule));
-        if length == 0 {
-            return f.write_str(" (nothing)");
-        }
-        for place in 0..length {
+        // A loop of its own, as each list here has: a trait of numbered pieces would want a struct and an impl for each.
+        for place in self.from..self.to {
             let symbol = Name::of(self.grammar, self.grammar.right(self.rule, place));
             write!(f, " {symbol}")?;
         }
@@ -42,7 +43,16 @@ impl fmt::Display for RuleText<'_> {
     fn fmt<W: fmt::Write>(&self, f: &mut fmt::Formatter<W>) -> fmt::Result {
         let RuleText { grammar, rule } = *self;
         let left = Name::of(grammar, grammar.left(rule));
-        let right = RightSide { grammar, rule };
+        let length = usize::from(grammar.length(rule));
+        if length == 0 {
+            return write!(f, "{left} -> (nothing)");
+        }
+        let right = RightSymbols {
+            grammar,
+            rule,
+            from: 0,
+            to: length,
+        };
         write!(f, "{left} ->{right}")
     }
 }

@@ -1,14 +1,15 @@
 -- The reductions of one rule: what the cells that they reach give, and why nothing is missed.
-use Rattle.std.proofs.Common.{◌≡◌, ℕ, suc, ◌<◌, ◌≤◌, true, List, [], length, take, Some, None, Option, sym, refl, ap, ◌∙◌, subst, inl, inr, ⊎_elim, arith, take_all}
+use Rattle.std.proofs.Common.{◌≡◌, ℕ, suc, ◌<◌, ◌≤◌, true, List, [], length, take, drop, Some, None, Option, sym, ap, ◌∙◌, subst, inl, inr, ⊎_elim, arith, take_all}
 use Rattle.std.proofs.lemmas.Bool.{cases_lt}
 use Rattle.parsing.specs.Grammar.{rule_count, lhs, rhs}
 use Rattle.parsing.specs.Items.{Source}
 use Rattle.parsing.specs.Links.{ChainOf, stay_of, down_of, LiveOf}
 use Rattle.link_growth.specs.declared.Link.{Link}
-use Rattle.link_growth.specs.Entries.{lnk, at, Small, Mem, Has, cell, upper, lower, stays}
+use Rattle.link_growth.specs.declared.Cell.{Cell}
+use Rattle.link_growth.specs.Entries.{lnk, Mem, Has, cell, lower, Leads, stays}
 use Rattle.link_growth.specs.Growth.{Makes, reduces, Grown, Fired, Before, Fresh, Laid, Ends}
 use Rattle.link_growth.specs.Picking.{Picked, Tops}
-use Rattle.link_growth.proofs.Members.{mem_at, mem_index, mem_take}
+use Rattle.link_growth.proofs.Members.{mem_drop, mem_parts}
 use Rattle.link_growth.proofs.Grows.{chain_more, live_more, chain_leads, leads_chain, grown_has, grown_front}
 
 -- A chain that begins below j is among the first links.
@@ -18,63 +19,48 @@ chain_old {j} laid lt (down_of {t = t} {j = p} {s = s} {k = k} h c) =
     let f = laid.falls t p s k h in
     down_of (laid.old t p s k h (λ (e : p ≡ j). absurd (omega arith))) (chain_old laid (omega arith) c)
 
-chain_small : {xs : List Link} → ((l : Link) → Mem l xs → Small l) → {m t j b i : ℕ} → t < 256 → ChainOf (Has xs) m t j b i → b < 256
-chain_small small lt stay_of = lt
-chain_small small lt (down_of {t = t} {j = p} {s = s} {k = k} h c) = chain_small small (small (lnk t p s k) h).2 c
-
 module _ {src : Source} {j r n : ℕ} {xs : List Link} (laid : Laid j n xs) (rule : r < rule_count src.grammar) where
   -- A rule with right symbols: the cells below the links of the states in which it is done.
-  pub long_allowed : {cs : List ℕ} (m : ℕ) → length (rhs src.grammar r) ≡ suc m
-      → Picked (λ k. src.done (at xs k).state r ≡ true) (λ k. lower (at xs k)) n (length xs) [] cs
-      → Ends src (lhs src.grammar r) m cs xs (Makes src None j xs)
-  long_allowed {cs} m long p c d b i s h l lt e next =
+  pub long_allowed : {cs : List Cell} (m : ℕ) → length (rhs src.grammar r) ≡ suc m
+      → Picked (λ (l : Link). src.done l.state r ≡ true) lower (drop n xs) [] cs → Ends src (lhs src.grammar r) m cs xs (Makes src None j xs)
+  long_allowed {cs} m long p c b i s h leads next =
       ⊎_elim
       (λ (z : Mem c []). elim z [ ])
       (λ x.
-      let k = x.0 in
-      let a = at xs k in
-      let mem : Mem a xs = mem_at xs k (lnk 0 0 0 0) x.2 in
-      let place : a.place ≡ j = laid.here k x.1 x.2 in
-      let has : Has xs a.state j a.below a.below_place = subst (λ v. Has xs a.state v a.below a.below_place) place mem in
-      let chain : ChainOf (Has xs) (suc m) a.state j b i =
-      down_of has (leads_chain laid.small l a.below a.below_place b i (laid.small a mem).2 (sym x.4) lt e) in
-      reduces r a.state rule (inr (a.below, a.below_place, has)) (subst (λ v. ChainOf (Has xs) v a.state j b i) (sym long) chain) x.3 next)
+      let a = x.0 in
+      let has : Has xs a.state j a.below a.below_place = subst (λ v. Has xs a.state v a.below a.below_place) (laid.here a x.1) (mem_drop n xs x.1) in
+      let chain : ChainOf (Has xs) (suc m) a.state j b i = down_of has (leads_chain (subst (λ v. Leads xs m v (cell b i)) (sym x.3) leads)) in
+      reduces r a.state rule (inr (a.below, a.below_place, has)) (subst (λ v. ChainOf (Has xs) v a.state j b i) (sym long) chain) x.2 next)
       (p.sound c h)
 
-  pub long_fired : {ys : List Link} {cs : List ℕ} (m : ℕ) → length (rhs src.grammar r) ≡ suc m → Fresh j n xs → Before src j n xs → Grown src None j xs ys
-      → Picked (λ k. src.done (at xs k).state r ≡ true) (λ k. lower (at xs k)) n (length xs) [] cs
+  pub long_fired : {ys : List Link} {cs : List Cell} (m : ℕ) → length (rhs src.grammar r) ≡ suc m → Fresh j n xs → Before src j n xs → Grown src None j xs ys
+      → Picked (λ (l : Link). src.done l.state r ≡ true) lower (drop n xs) [] cs
       → Ends src (lhs src.grammar r) m cs xs (λ s b i. Has ys s j b i) → Fired src j r xs ys
   long_fired {ys} {cs} m long fresh before g p ends t s b i done live chain next =
       go (subst (λ v. ChainOf (Has xs) v t j b i) long chain)
     where
       go : ChainOf (Has xs) (suc m) t j b i → Has ys s j b i
       go (down_of {s = u} {k = q} h c) =
-          let (k, inside, is) = mem_index (lnk 0 0 0 0) h in
           ⊎_elim
-          (λ (low : k < n).
-          let h' : Has (take n xs) t j u q = subst (λ v. Mem v (take n xs)) is (mem_take xs n k (lnk 0 0 0 0) laid.within low) in
+          (λ (old : Has (take n xs) t j u q).
           let f = laid.falls t j u q h in
-          let ne : q ≡ j → ⊥ = λ (e : q ≡ j). fresh t u (subst (λ v. Has (take n xs) t j u v) e h') in
+          let ne : q ≡ j → ⊥ = λ (e : q ≡ j). fresh t u (subst (λ v. Has (take n xs) t j u v) e old) in
           let below : q < j = ⊎_elim (λ (y : q < j). y) (λ (y : j ≤ q). absurd (ne (omega arith))) (cases_lt q j) in
           let c' : ChainOf (Has (take n xs)) (length (rhs src.grammar r)) t j b i =
-          subst (λ v. ChainOf (Has (take n xs)) v t j b i) (sym long) (down_of h' (chain_old laid below c)) in
-          grown_has g s j b i (before r t s b i u q rule done h' c' next))
-          (λ (high : n ≤ k).
-          let here : Mem (cell u q) cs = subst (λ (v : Link). Mem (lower v) cs) is (p.whole k high inside (ap (λ (v : Link). src.done v.state r) is ∙ done)) in
-          ends (cell u q) (cell b i) b i s here (chain_leads c) (chain_small laid.small (laid.small (lnk t j u q) h).2 c) refl next)
-          (cases_lt k n)
+          subst (λ v. ChainOf (Has (take n xs)) v t j b i) (sym long) (down_of old (chain_old laid below c)) in
+          grown_has g s j b i (before r t s b i u q rule done old c' next))
+          (λ (late : Mem (lnk t j u q) (drop n xs)). ends (cell u q) b i s (p.whole (lnk t j u q) late done) (chain_leads c) next)
+          (mem_parts n xs h)
 
   -- An empty rule: the cells of the states in which it is done.
-  pub empty_allowed : {cs : List ℕ} → length (rhs src.grammar r) ≡ 0 → Tops src j r n xs cs → Ends src (lhs src.grammar r) 0 cs xs (Makes src None j xs)
-  empty_allowed long p c d b i s h stays lt e next =
-      let (t, small, is, live, done) = p.sound c h in
-      let eb : t ≡ b = omega arith in
-      let ei : j ≡ i = omega arith in
-      let chain : ChainOf (Has xs) (length (rhs src.grammar r)) t j b i =
-      subst (λ v. ChainOf (Has xs) v t j b i) (sym long) (subst (λ v. ChainOf (Has xs) 0 t j v i) eb (subst (λ v. ChainOf (Has xs) 0 t j t v) ei stay_of)) in
-      reduces r t rule live chain done next
+  pub empty_allowed : {cs : List Cell} → length (rhs src.grammar r) ≡ 0 → Tops src j r n xs cs → Ends src (lhs src.grammar r) 0 cs xs (Makes src None j xs)
+  empty_allowed long p c b i s h stays next =
+      let (place, live, done) = p.sound c h in
+      let chain : ChainOf (Has xs) (length (rhs src.grammar r)) b j b i =
+      subst (λ v. ChainOf (Has xs) v b j b i) (sym long) (subst (λ v. ChainOf (Has xs) 0 b v b i) place stay_of) in
+      reduces r b rule live chain done next
 
-  pub empty_fired : {ys : List Link} {cs : List ℕ} → length (rhs src.grammar r) ≡ 0 → Before src j n xs → Grown src None j xs ys
+  pub empty_fired : {ys : List Link} {cs : List Cell} → length (rhs src.grammar r) ≡ 0 → Before src j n xs → Grown src None j xs ys
       → Tops src j r n xs cs → Ends src (lhs src.grammar r) 0 cs xs (λ s b i. Has ys s j b i) → Fired src j r xs ys
   empty_fired {ys} {cs} long before g p ends t s b i done live chain next =
       go (subst (λ v. ChainOf (Has xs) v t j b i) long chain) next live
@@ -82,17 +68,13 @@ module _ {src : Source} {j r n : ℕ} {xs : List Link} (laid : Laid j n xs) (rul
       go : {b i : ℕ} → ChainOf (Has xs) 0 t j b i → src.next b (lhs src.grammar r) ≡ Some s → LiveOf src (Has xs) t j → Has ys s j b i
       go stay_of next (inl (e, z)) =
           let here : Mem (cell t j) cs = subst (λ v. Mem (cell t v) cs) (sym z) (subst (λ v. Mem (cell v 0) cs) (sym e) (p.first z (ap (λ v. src.done v r) (sym e) ∙ done))) in
-          ends (cell t j) (cell t j) t j s here stays (subst (λ v. v < 256) (sym e) p.byte) refl next
+          ends (cell t j) t j s here stays next
       go stay_of next (inr (u, q, h)) =
-          let (k, inside, is) = mem_index (lnk 0 0 0 0) h in
           ⊎_elim
-          (λ (low : k < n).
-          let h' : Has (take n xs) t j u q = subst (λ v. Mem v (take n xs)) is (mem_take xs n k (lnk 0 0 0 0) laid.within low) in
-          grown_has g s j t j (before r t s t j u q rule done h' (subst (λ v. ChainOf (Has (take n xs)) v t j t j) (sym long) stay_of) next))
-          (λ (high : n ≤ k).
-          let here : Mem (cell t j) cs = subst (λ (v : Link). Mem (upper v) cs) is (p.whole k high inside (ap (λ (v : Link). src.done v.state r) is ∙ done)) in
-          ends (cell t j) (cell t j) t j s here stays (laid.small (lnk t j u q) h).0 refl next)
-          (cases_lt k n)
+          (λ (old : Has (take n xs) t j u q).
+          grown_has g s j t j (before r t s t j u q rule done old (subst (λ v. ChainOf (Has (take n xs)) v t j t j) (sym long) stay_of) next))
+          (λ (late : Mem (lnk t j u q) (drop n xs)). ends (cell t j) t j s (p.whole (lnk t j u q) late done) stays next)
+          (mem_parts n xs h)
 
 -- What is known of the first links stays known as others come behind.
 pub before_more : {src : Source} {j n : ℕ} {xs ys : List Link} → n ≤ length xs → Grown src None j xs ys → Before src j n xs → Before src j n ys

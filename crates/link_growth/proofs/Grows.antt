@@ -1,11 +1,12 @@
 -- How lists of links grow, and what chains and live states keep meanwhile.
-use Rattle.std.proofs.Common.{◌≡◌, ℕ, zero, suc, ◌<◌, ◌≤◌, List, [], ◌∷◌, length, take, None, Option, refl, ap, ◌∙◌, subst, inl, inr, ⊎_elim, arith, length-append}
+use Rattle.std.proofs.Common.{◌≡◌, ℕ, ◌≤◌, List, [], ◌∷◌, length, take, None, Option, refl, ap, ◌∙◌, inl, inr, ⊎_elim, arith, length-append}
 use lib.Seq.{take-append-le}
 use Rattle.std.proofs.lemmas.List.{length_push}
 use Rattle.parsing.specs.Items.{Source}
 use Rattle.parsing.specs.Links.{ChainOf, stay_of, down_of, LiveOf}
 use Rattle.link_growth.specs.declared.Link.{Link}
-use Rattle.link_growth.specs.Entries.{lnk, Small, Mem, Has, cell, Leads, stays, goes}
+use Rattle.link_growth.specs.declared.Cell.{Cell}
+use Rattle.link_growth.specs.Entries.{lnk, Mem, Has, cell, Leads, stays, goes}
 use Rattle.link_growth.specs.Growth.{Makes, shifts, reduces, Grown, same, add, Overfull}
 use Rattle.link_growth.proofs.Members.{mem_left, mem_split}
 
@@ -23,18 +24,9 @@ pub chain_leads : {xs : List Link} {m t j b i : ℕ} → ChainOf (Has xs) m t j 
 chain_leads stay_of = stays
 chain_leads (down_of {t = t} {j = j} {s = s} {k = k} l c) = goes (lnk t j s k) l (chain_leads c)
 
-pub leads_chain : {xs : List Link} {m c d : ℕ} → ((l : Link) → Mem l xs → Small l) → Leads xs m c d → (t j b i : ℕ) → t < 256 → c ≡ cell t j → b < 256 → d ≡ cell b i
-    → ChainOf (Has xs) m t j b i
-leads_chain {xs} small stays t j b i lt e lb f =
-    let p : t ≡ b = omega arith in
-    let q : j ≡ i = omega arith in
-    subst (λ v. ChainOf (Has xs) zero t j v i) p (subst (λ v. ChainOf (Has xs) zero t j t v) q stay_of)
-leads_chain {xs} {m = suc m} small (goes l h p) t j b i lt e lb f =
-    let z = small l h in
-    let r : l.state ≡ t = omega arith in
-    let q : l.place ≡ j = omega arith in
-    let c : ChainOf (Has xs) (suc m) l.state l.place b i = down_of h (leads_chain small p l.below l.below_place b i z.2 refl lb f) in
-    subst (λ v. ChainOf (Has xs) (suc m) v j b i) r (subst (λ v. ChainOf (Has xs) (suc m) l.state v b i) q c)
+pub leads_chain : {xs : List Link} {m : ℕ} {c d : Cell} → Leads xs m c d → ChainOf (Has xs) m c.state c.place d.state d.place
+leads_chain stays = stay_of
+leads_chain (goes l h p) = down_of h (leads_chain p)
 
 -- Growth keeps what there is.
 pub grown_mem : {src : Source} {w : Option ℕ} {j : ℕ} {xs ys : List Link} → Grown src w j xs ys → {l : Link} → Mem l xs → Mem l ys

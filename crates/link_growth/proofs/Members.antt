@@ -1,5 +1,5 @@
 -- Members of lists, by index and by growth.
-use Rattle.std.proofs.Common.{◌≡◌, ℕ, zero, suc, ◌<◌, ◌≤◌, ◌⊎◌, List, [], ◌∷◌, ◌++◌, length, get_or, take, sym, refl, ◌∙◌, subst, inl, inr, ⊎_elim, arith, length-take-le, get_or-take}
+use Rattle.std.proofs.Common.{◌≡◌, ℕ, zero, suc, ◌<◌, ◌≤◌, ◌⊎◌, List, [], ◌∷◌, ◌++◌, length, get_or, take, drop, sym, refl, ◌∙◌, subst, inl, inr, ⊎_elim, arith, length-take-le, get_or-take}
 use Rattle.link_growth.specs.Entries.{Mem, head, tail, Once, nil, cons}
 
 pub mem_at : {A : Type 0} (xs : List A) (k : ℕ) (d : A) → k < length xs → Mem (get_or xs k d) xs
@@ -55,3 +55,15 @@ pub once_front : {A : Type 0} (n : ℕ) {xs : List A} → Once xs → Once (take
 once_front zero o = nil
 once_front (suc n) nil = nil
 once_front (suc n) (cons {xs = xs} x o) = cons (λ m. x (mem_front n xs m)) (once_front n o)
+
+-- The first n, and the rest.
+pub mem_drop : {A : Type 0} {y : A} (n : ℕ) (xs : List A) → Mem y (drop n xs) → Mem y xs
+mem_drop zero xs m = m
+mem_drop (suc n) [] m = m
+mem_drop (suc n) (x ∷ xs) m = tail (mem_drop n xs m)
+
+pub mem_parts : {A : Type 0} {y : A} (n : ℕ) (xs : List A) → Mem y xs → Mem y (take n xs) ⊎ Mem y (drop n xs)
+mem_parts zero xs m = inr m
+mem_parts (suc n) [] m = elim m [ ]
+mem_parts (suc n) (x ∷ xs) head = inl head
+mem_parts (suc n) (x ∷ xs) (tail m) = ⊎_elim (λ l. inl (tail l)) inr (mem_parts n xs m)

@@ -5,12 +5,13 @@
 --   Mem y xs           y is in xs
 --   Once xs            no two entries of xs are equal
 --   Has xs s j b i     the link lnk s j b i is in xs
---   cell s j           the state s at place j, as one number
+--   cell s j           the state s at place j
 --   upper l, lower l   the cells that the link l leads from and down to
 --   Leads xs m c d     m links of xs lead, one after another, from the cell c down to the cell d
 --   Spread xs cs ds    the cells ds are what one link of xs leads down to from the cells cs
-use Rattle.std.specs.Prelude.{◌≡◌, ℕ, zero, suc, ◌+◌, ◌*◌, ◌<◌, List, [], ◌∷◌, slice_index_or}
+use Rattle.std.specs.Prelude.{◌≡◌, ℕ, zero, suc, ◌<◌, List, [], ◌∷◌, slice_index_or}
 use Rattle.link_growth.specs.declared.Link.{Link}
+use Rattle.link_growth.specs.declared.Cell.{Cell}
 
 abbrev pub lnk : ℕ → ℕ → ℕ → ℕ → Link
 lnk s j b i = record { state = s; place = j; below = b; below_place = i }
@@ -32,19 +33,19 @@ pub data Once {A : Type 0} : List A → Type 0 where
 abbrev pub Has : List Link → ℕ → ℕ → ℕ → ℕ → Type 0
 Has xs s j b i = Mem (lnk s j b i) xs
 
-abbrev pub cell : ℕ → ℕ → ℕ
-cell s j = j * 256 + s
+abbrev pub cell : ℕ → ℕ → Cell
+cell s j = record { state = s; place = j }
 
-abbrev pub upper : Link → ℕ
+abbrev pub upper : Link → Cell
 upper l = cell l.state l.place
 
-abbrev pub lower : Link → ℕ
+abbrev pub lower : Link → Cell
 lower l = cell l.below l.below_place
 
-pub data Leads (xs : List Link) : ℕ → ℕ → ℕ → Type 0 where
-  stays : {c : ℕ} → Leads xs zero c c
-  goes : {m d : ℕ} (l : Link) → Mem l xs → Leads xs m (lower l) d → Leads xs (suc m) (upper l) d
+pub data Leads (xs : List Link) : ℕ → Cell → Cell → Type 0 where
+  stays : {c : Cell} → Leads xs zero c c
+  goes : {m : ℕ} {d : Cell} (l : Link) → Mem l xs → Leads xs m (lower l) d → Leads xs (suc m) (upper l) d
 
-pub record Spread (xs : List Link) (cs ds : List ℕ) : Type 0 where
+pub record Spread (xs : List Link) (cs ds : List Cell) : Type 0 where
   pub whole : (l : Link) → Mem l xs → Mem (upper l) cs → Mem (lower l) ds
-  pub sound : (c : ℕ) → Mem c ds → (l : Link) × Mem l xs × Mem (upper l) cs × (lower l ≡ c)
+  pub sound : (c : Cell) → Mem c ds → (l : Link) × Mem l xs × Mem (upper l) cs × (lower l ≡ c)

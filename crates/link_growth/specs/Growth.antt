@@ -9,12 +9,13 @@
 --   Fresh j n xs             no link among the first n of xs stays at j
 --   Laid j n xs              from n on the links of xs are at j, those of other places come before, and no link rises
 --   Ends src x m cs xs Q     Q holds of each step by x from where m links of xs lead from the cells cs
-use Rattle.std.specs.Prelude.{◌≡◌, ℕ, suc, ◌<◌, ◌≤◌, true, List, [], ◌∷◌, ◌++◌, length, take, Some, Option, ◌≢◌}
+use Rattle.std.specs.Prelude.{◌≡◌, ℕ, suc, ◌<◌, ◌≤◌, true, List, [], ◌∷◌, ◌++◌, length, take, drop, Some, Option, ◌≢◌}
 use Rattle.parsing.specs.Grammar.{rule_count, lhs, rhs}
 use Rattle.parsing.specs.Items.{Source}
 use Rattle.parsing.specs.Links.{ChainOf, LiveOf}
 use Rattle.link_growth.specs.declared.Link.{Link}
-use Rattle.link_growth.specs.Entries.{lnk, at, Small, Mem, Has, cell, Leads}
+use Rattle.link_growth.specs.declared.Cell.{Cell}
+use Rattle.link_growth.specs.Entries.{lnk, Mem, Has, cell, Leads}
 
 -- The word rule, where a word w ends at j, or the reduction rule.
 pub data Makes (src : Source) (w : Option ℕ) (j : ℕ) (xs : List Link) : ℕ → ℕ → ℕ → Type 0 where
@@ -53,10 +54,9 @@ Fresh j n xs = (s b : ℕ) → Has (take n xs) s j b j → ⊥
 
 pub record Laid (j n : ℕ) (xs : List Link) : Type 0 where
   pub within : n ≤ length xs
-  pub here : (k : ℕ) → n ≤ k → k < length xs → (at xs k).place ≡ j
+  pub here : (l : Link) → Mem l (drop n xs) → l.place ≡ j
   pub old : (s p b i : ℕ) → Has xs s p b i → (p ≢ j) → Has (take n xs) s p b i
   pub falls : (s p b i : ℕ) → Has xs s p b i → i ≤ p
-  pub small : (l : Link) → Mem l xs → Small l
 
-abbrev pub Ends : Source → ℕ → ℕ → List ℕ → List Link → (ℕ → ℕ → ℕ → Type 0) → Type 0
-Ends src x m cs xs Q = (c d b i s : ℕ) → Mem c cs → Leads xs m c d → b < 256 → d ≡ cell b i → src.next b x ≡ Some s → Q s b i
+abbrev pub Ends : Source → ℕ → ℕ → List Cell → List Link → (ℕ → ℕ → ℕ → Type 0) → Type 0
+Ends src x m cs xs Q = (c : Cell) (b i s : ℕ) → Mem c cs → Leads xs m c (cell b i) → src.next b x ≡ Some s → Q s b i

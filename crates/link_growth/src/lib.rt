@@ -12,6 +12,13 @@ pub struct Link {
     pub below_place: u8,
 }
 
+/// A cell of the graph-structured stack: a state at a place.
+#[derive(Clone, Copy, Debug, Default, PartialEq, Eq)]
+pub struct Cell {
+    pub state: u8,
+    pub place: u8,
+}
+
 /// The number of links of some words is one number, and a list without repeats of their links is no longer.
 pub fn links_have_one_number() -> u8
     ensures { Counting }

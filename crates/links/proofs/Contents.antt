@@ -1,13 +1,13 @@
 -- What a table's bounds say of its content.
-use Rattle.std.proofs.Common.{◌≡◌, ℕ, ◌+◌, ◌<◌, ◌≤◌, List, [], ◌∷◌, ◌++◌, length, get_or, take, Some, Ok, Err, Option, Result, sym, refl, ap, ◌∙◌, subst, ⊎_elim, arith, length-take-le, get_or-take, MatchResult}
+use Rattle.std.proofs.Common.{◌≡◌, ℕ, ◌+◌, ◌<◌, ◌≤◌, List, [], ◌∷◌, ◌++◌, length, get_or, take, drop, Some, Ok, Err, Option, Result, sym, refl, ap, ◌∙◌, subst, ⊎_elim, arith, length-take-le, length-drop, get_or-take, MatchResult}
 use Rattle.std.proofs.lemmas.Bool.{cases_lt}
-use Rattle.std.proofs.lemmas.List.{length_push}
+use Rattle.std.proofs.lemmas.List.{length_push, get_or-drop}
 use Rattle.parsing.specs.Items.{Source}
 use Rattle.parsing.specs.Links.{ChainOf, stay_of, down_of}
 use Rattle.link_growth.specs.declared.Link.{Link}
 use Rattle.link_growth.specs.Entries.{lnk, at, Small, Mem, Has}
 use Rattle.link_growth.specs.Growth.{Makes, shifts, reduces, Grown, same, add, Overfull, Laid}
-use Rattle.link_growth.proofs.Members.{mem_take, take_index, mem_last}
+use Rattle.link_growth.proofs.Members.{mem_take, take_index, mem_last, mem_index, mem_parts}
 use Rattle.link_growth.proofs.Grows.{grown_long, grown_same, grown_front}
 use Rattle.links.specs.declared.table.Table.{Table}
 use Rattle.links.specs.Tables.{content, StartsAt, Kept, there, new, Placed, nowhere, somewhere, Turned}
@@ -53,22 +53,19 @@ module _ (t : Table) (n : ℕ) (since : get_or t.starts t.place 0 ≤ n) where
   pub laid_from : n ≤ t.count → Laid t.place n (content t)
   laid_from le = record {
     within = (let e = long t in omega arith);
-    here = λ k lo hi. let h : k < t.count = (let e = long t in omega arith) in ap (λ (v : Link). v.place) (content_at t k h) ∙ last_place k lo h;
-    old = λ s p b i m ne. old s p b i m ne;
+    here = here;
+    old = λ s p b i m ne. ⊎_elim (λ (low : Has (take n (content t)) s p b i). low) (λ late. absurd (ne (here (lnk s p b i) late))) (mem_parts n (content t) m);
     falls = falls_of t;
-    small = small_of t;
   }
     where
-      old : (s p b i : ℕ) → Has (content t) s p b i → (p ≡ t.place → ⊥) → Has (take n (content t)) s p b i
-      old s p b i m ne =
-          let (k, lt, e) = find t m in
-          let y : (at t.links k).place ≡ p = ap (λ (v : Link). v.place) e in
-          ⊎_elim
-          (λ (low : k < n).
-          let z : at (content t) k ≡ lnk s p b i = content_at t k lt ∙ e in
-          subst (λ v. Mem v (take n (content t))) z (mem_take (content t) n k (lnk 0 0 0 0) (let q = long t in omega arith) low))
-          (λ (high : n ≤ k). absurd (ne (sym y ∙ last_place k high lt)))
-          (cases_lt k n)
+      here : (l : Link) → Mem l (drop n (content t)) → l.place ≡ t.place
+      here l m =
+          let q = long t in
+          let size = length-drop n (content t) in
+          let (k, lt, e) = mem_index (lnk 0 0 0 0) m in
+          let h : n + k < t.count = omega arith in
+          let is : at t.links (n + k) ≡ l = sym (content_at t (n + k) h) ∙ sym (get_or-drop n (content t) k (lnk 0 0 0 0)) ∙ e in
+          ap (λ (v : Link). v.place) (sym is) ∙ last_place (n + k) (omega arith) h
 
 pub starts_le : {t : Table} {i m n : ℕ} → StartsAt t i m → StartsAt t (i + 1) n → m ≤ n
 starts_le {t} {i} {m} {n} a b =
@@ -158,15 +155,3 @@ either (Err e) h f g = g h
 pub both : {T E : Type 0} (r : Result T E) {X Y Z W : Type 0} → MatchResult r (λ _. X) (λ _. Y) → (X → Z) → (Y → W) → MatchResult r (λ _. Z) (λ _. W)
 both (Ok x) h f g = f h
 both (Err e) h f g = g h
-
--- No link of the last place stays there.
-pub none_stays : (t : Table) (m k : ℕ) → StartsAt t t.place m → t.count ≤ k
-    → ((h : ℕ) → m ≤ h → h < k → (at t.links h).below_place ≡ t.place → ⊥) → (s b : ℕ) → Has (content t) s t.place b t.place → ⊥
-none_stays t m k a end none s b mem =
-    let (h, lt, e) = find t mem in
-    let y : (at t.links h).place ≡ t.place = ap (λ (v : Link). v.place) e in
-    let z : (at t.links h).below_place ≡ t.place = ap (λ (v : Link). v.below_place) e in
-    ⊎_elim
-    (λ (low : h < m). let q = a.under h low in omega arith)
-    (λ (high : m ≤ h). none h high (omega arith) z)
-    (cases_lt h m)

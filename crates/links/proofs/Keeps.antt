@@ -1,6 +1,6 @@
 -- One word more, and fewer words.
-use Rattle.std.proofs.Common.{◌≡◌, ℕ, suc, ◌+◌, ◌-◌, ◌<◌, ◌≤◌, true, false, ◌≢◌, List, [], ◌∷◌, ◌++◌, length, get_or, take, drop, is_some as option_is_some, Some, None, Option, sym, refl, ap, ◌∙◌, subst, inl, inr, ⊎_elim, arith, length-take-le, take_all}
-use Rattle.std.proofs.lemmas.Bool.{cases_lt, true≢false, false≢true}
+use Rattle.std.proofs.Common.{◌≡◌, ℕ, suc, ◌+◌, ◌-◌, ◌<◌, ◌≤◌, ◌≢◌, List, [], ◌∷◌, ◌++◌, length, get_or, take, drop, Some, None, Option, sym, refl, ap, ◌∙◌, subst, inl, inr, ⊎_elim, arith, length-take-le, take_all}
+use Rattle.std.proofs.lemmas.Bool.{cases_lt}
 use Rattle.std.proofs.lemmas.List.{get_or_push, length_push, take-append-drop}
 use Rattle.parsing.specs.Items.{Source}
 use Rattle.parsing.specs.Links.{Linked, Live, bottom, linked, LiveOf}
@@ -15,9 +15,9 @@ use Rattle.link_growth.proofs.Members.{mem_take, take_index, mem_front, once_fro
 use Rattle.link_growth.proofs.Grows.{live_more, grown_mem, grown_has, grown_front, grown_old, grown_lift, overfull_lift}
 use Rattle.link_growth.proofs.Exacts.{True, grown_true, grown_once, whole, exceeds, fits}
 use Rattle.links.specs.declared.table.Table.{Table}
-use Rattle.links.specs.Tables.{content, StartsAt, Kept, Placed, Turned, FirstStepped, LinksStepped, Begun, Cut}
+use Rattle.links.specs.Tables.{content, StartsAt, Kept, Placed, Turned, FirstStepped, LinksStepped, Along, Begun, Cut}
 use Rattle.links.proofs.Contents.{long, content_at, member, find, high_of, entry, content_same, count_more, placed_grown, placed_has, turned_overfull}
-use Rattle.links.proofs.Rounds.{Along, along_same, along_more, along_overfull}
+use Rattle.links.proofs.Rounds.{along_same, along_more, along_overfull}
 
 -- A table holds the links of the words.
 pub record Held (src : Source) (ws : List ℕ) (t : Table) : Type 0 where
@@ -265,25 +265,6 @@ cut_held {src} ws t u k le c h = record {
   exact = subst (λ v. Exact src (take k ws) v) (sym c.front) (front_exact ws t k u.count le c.start h);
 }
 
--- Whether a state that is live at the last place has a step.
-pub none_steps : (src : Source) (x : ℕ) (t : Table) (m k : ℕ) → StartsAt t t.place m → t.count ≤ k
-    → ((h : ℕ) → m ≤ h → h < k → src.next (at t.links h).state x ≡ None) → (t.place ≡ 0 → src.next src.first x ≡ None)
-    → (b : ℕ) → LiveOf src (Has (content t)) b t.place → src.next b x ≡ None
-none_steps src x t m k a end none first b (inl (e, z)) = ap (λ v. src.next v x) e ∙ first z
-none_steps src x t m k a end none first b (inr (c, q, mem)) =
-    let (h, lt, e) = find t mem in
-    let y : (at t.links h).place ≡ t.place = ap (λ (v : Link). v.place) e in
-    let low : m ≤ h = ⊎_elim (λ (w : h < m). absurd (let r = a.under h w in omega arith)) (λ (w : m ≤ h). w) (cases_lt h m) in
-    sym (ap (λ (v : Link). src.next v.state x) e) ∙ none h low (omega arith)
-
-pub one_live : (src : Source) (t : Table) (m k : ℕ) → StartsAt t t.place m → m ≤ k → k < t.count → LiveOf src (Has (content t)) (at t.links k).state t.place
-one_live src t m k a lo hi =
-    let l = at t.links k in
-    let p = a.over k lo hi in
-    let q = t.high k hi in
-    let place : l.place ≡ t.place = omega arith in
-    inr (l.below, l.below_place, subst (λ v. Has (content t) l.state v l.below l.below_place) place (member t k hi))
-
 -- The front of a table, when the links of fewer words are more than a limit, and when they are not.
 pub front_exceeds : {src : Source} (ws : List ℕ) (t : Table) (k n limit : ℕ) → k ≤ t.place → StartsAt t (k + 1) n → Held src ws t → limit < n → Exceeds src (take k ws) limit
 front_exceeds ws t k n limit le a h lt =
@@ -310,10 +291,3 @@ cut_fits ws t u k n limit le c a h small =
     let z = starts_once c.start a in
     let q = long u in
     fits r.exact (omega arith)
-
-pub is_some : (o p : Option ℕ) → option_is_some o ≡ true → o ≡ p → p ≢ None
-is_some o p s e n = false≢true (sym (ap option_is_some (e ∙ n)) ∙ s)
-
-pub is_none : (o : Option ℕ) → option_is_some o ≡ false → o ≡ None
-is_none None s = refl
-is_none (Some x) s = absurd (true≢false s)

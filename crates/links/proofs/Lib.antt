@@ -1,9 +1,9 @@
 pub mod Lists
 pub mod Members
 pub mod Contents
+pub mod Places
 pub mod Changes
 pub mod Spreads
-pub mod Reduces
 pub mod Rounds
 pub mod Keeps
 pub mod Calls

@@ -1,26 +1,25 @@
 -- What a set of cells holds, by its marks.
-use Rattle.std.proofs.Common.{◌≡◌, ℕ, true, false, List, [], ◌∷◌, ◌++◌, length, get_or, sym, ◌∙◌, inl, arith, length-take-le}
+use Rattle.std.proofs.Common.{◌≡◌, true, false, List, [], ◌∷◌, ◌++◌, sym, ◌∙◌, inl}
+use Rattle.link_growth.specs.declared.Cell.{Cell}
 use Rattle.link_growth.specs.Entries.{Mem, Once}
 use Rattle.link_growth.specs.Picking.{Inserted}
 use Rattle.link_growth.proofs.Members.{mem_left, mem_last, mem_split}
 use Rattle.links.specs.declared.cells.Cells.{Cells}
+use Rattle.links.specs.Listing.{mark}
 use Rattle.links.specs.Sets.{cells_of}
 use Rattle.links.proofs.Lists.{listed_mem, listed_not, distinct_once}
 
-pub size : (s : Cells) → length (cells_of s) ≡ s.count
-size s = length-take-le s.count s.list (omega (arith, s.room, s.few))
-
-pub present : (s : Cells) (c : ℕ) → get_or s.marks c false ≡ true → Mem c (cells_of s)
+pub present : (s : Cells) (c : Cell) → mark s.marks c ≡ true → Mem c (cells_of s)
 present s c e = listed_mem c (cells_of s) (sym (s.marked c) ∙ e)
 
-pub absent : (s : Cells) (c : ℕ) → get_or s.marks c false ≡ false → Mem c (cells_of s) → ⊥
+pub absent : (s : Cells) (c : Cell) → mark s.marks c ≡ false → Mem c (cells_of s) → ⊥
 absent s c e = listed_not c (cells_of s) (sym (s.marked c) ∙ e)
 
 pub each_once : (s : Cells) → Once (cells_of s)
 each_once s = distinct_once (cells_of s) s.once
 
-pub inserted_there : {c : ℕ} {xs : List ℕ} → Mem c xs → Inserted c xs xs
+pub inserted_there : {c : Cell} {xs : List Cell} → Mem c xs → Inserted c xs xs
 inserted_there m = record { kept = λ d h. h; there = m; sound = λ d h. inl h }
 
-pub inserted_new : (c : ℕ) (xs : List ℕ) → Inserted c xs (xs ++ c ∷ [])
+pub inserted_new : (c : Cell) (xs : List Cell) → Inserted c xs (xs ++ c ∷ [])
 inserted_new c xs = record { kept = λ d h. mem_left (c ∷ []) h; there = mem_last xs c; sound = λ d h. mem_split xs c h }

@@ -12,12 +12,16 @@
 --   Marked src x j xs cs ds      the cells ds are those of cs that have their link by the symbol x at place j in xs
 --   FirstStepped src x p ys      ys has the link at p that the word x makes from the first state, if that is live below p
 --   LinksStepped src x p xs ys   ys has the links at p that the word x makes from the states of the links of xs below p
+--   Along src w t u limit        from t to u links that the rules make at the last place were added within the limit, and nothing else changed
+--   Ahead src t n                a round may look from the link n on: it is of the last place, and what the links before it make is there
 --   Begun t u                    u is t with one place more, that has no links yet
 --   Cut k t u                    u is t with the links of the places up to k alone
-use Rattle.std.specs.Prelude.{◌≡◌, ℕ, ◌+◌, ◌-◌, ◌<◌, ◌≤◌, true, ◌⊎◌, List, [], ◌∷◌, ◌++◌, map, length, take, Some, None, slice_index, slice_index_or}
+use Rattle.std.specs.Prelude.{◌≡◌, ℕ, ◌+◌, ◌-◌, ◌<◌, ◌≤◌, true, ◌⊎◌, List, [], ◌∷◌, ◌++◌, map, length, take, Some, None, Option, slice_index, slice_index_or}
 use Rattle.parsing.specs.Items.{Source}
 use Rattle.link_growth.specs.declared.Link.{Link}
+use Rattle.link_growth.specs.declared.Cell.{Cell}
 use Rattle.link_growth.specs.Entries.{lnk, at, Mem, Has, cell, upper, lower}
+use Rattle.link_growth.specs.Growth.{Grown, Fresh, Before}
 use Rattle.links.specs.declared.table.Table.{Table}
 
 abbrev pub content : Table → List Link
@@ -52,28 +56,37 @@ pub record Turned (src : Source) (j x b i limit : ℕ) (xs ys : List Link) : Typ
   pub steps : src.next b x ≡ Some state
   pub refused : Refused xs ys (lnk state j b i) limit
 
-abbrev pub Drawn : List Link → List ℕ → Type 0
-Drawn xs cs = (c : ℕ) → Mem c cs → Mem c (map lower xs)
+abbrev pub Drawn : List Link → List Cell → Type 0
+Drawn xs cs = (c : Cell) → Mem c cs → Mem c (map lower xs)
 
-pub record Scanned (xs : List Link) (cs : List ℕ) (p : ℕ) (old new : List ℕ) : Type 0 where
-  pub kept : (d : ℕ) → Mem d old → Mem d new
+pub record Scanned (xs : List Link) (cs : List Cell) (p : ℕ) (old new : List Cell) : Type 0 where
+  pub kept : (d : Cell) → Mem d old → Mem d new
   pub whole : (l : Link) → Mem l xs → l.place ≡ p → Mem (upper l) cs → Mem (lower l) new
-  pub sound : (d : ℕ) → Mem d new → Mem d old ⊎ ((l : Link) × Mem l xs × Mem (upper l) cs × (lower l ≡ d))
+  pub sound : (d : Cell) → Mem d new → Mem d old ⊎ ((l : Link) × Mem l xs × Mem (upper l) cs × (lower l ≡ d))
 
-pub record Bottom (src : Source) (j r : ℕ) (cs : List ℕ) : Type 0 where
-  pub byte : src.first < 256
+pub record Bottom (src : Source) (j r : ℕ) (cs : List Cell) : Type 0 where
   pub whole : j ≡ 0 → src.done src.first r ≡ true → Mem (cell src.first 0) cs
-  pub sound : (c : ℕ) → Mem c cs → (c ≡ cell src.first 0) × (j ≡ 0) × (src.done src.first r ≡ true)
+  pub sound : (c : Cell) → Mem c cs → (c ≡ cell src.first 0) × (j ≡ 0) × (src.done src.first r ≡ true)
 
-pub record Marked (src : Source) (x j : ℕ) (xs : List Link) (cs ds : List ℕ) : Type 0 where
+pub record Marked (src : Source) (x j : ℕ) (xs : List Link) (cs ds : List Cell) : Type 0 where
   pub whole : (b i s : ℕ) → Mem (cell b i) cs → src.next b x ≡ Some s → Has xs s j b i → Mem (cell b i) ds
-  pub sound : (c : ℕ) → Mem c ds → (b : ℕ) × (i : ℕ) × (s : ℕ) × (b < 256) × (c ≡ cell b i) × (src.next b x ≡ Some s) × Has xs s j b i
+  pub sound : (c : Cell) → Mem c ds → (s : ℕ) × (src.next c.state x ≡ Some s) × Has xs s j c.state c.place
 
 abbrev pub FirstStepped : Source → ℕ → ℕ → List Link → Type 0
 FirstStepped src x p ys = (s : ℕ) → p ≡ 1 → src.next src.first x ≡ Some s → Has ys s p src.first 0
 
 abbrev pub LinksStepped : Source → ℕ → ℕ → List Link → List Link → Type 0
 LinksStepped src x p xs ys = (s b c k : ℕ) → Has xs b (p - 1) c k → src.next b x ≡ Some s → Has ys s p b (p - 1)
+
+pub record Along (src : Source) (w : Option ℕ) (t u : Table) (limit : ℕ) : Type 0 where
+  pub kept : Kept t u limit
+  pub grown : Grown src w t.place (content t) (content u)
+
+pub record Ahead (src : Source) (t : Table) (n : ℕ) : Type 0 where
+  pub since : slice_index t.starts t.place ≤ n
+  pub until : n ≤ t.count
+  pub fresh : Fresh t.place n (content t)
+  pub before : Before src t.place n (content t)
 
 pub record Begun (t u : Table) : Type 0 where
   pub place : u.place ≡ t.place + 1

@@ -1,20 +1,14 @@
 //! Adding links to a table at its last place.
-ghost use Rattle.std.specs.Prelude.{◌≡◌, ℕ, ◌+◌, ◌<◌, ◌≤◌, true, false, [], Some, MatchResult, ◌≢◌};
+ghost use Rattle.std.specs.Prelude.{◌≡◌, ℕ, ◌+◌, ◌<◌, ◌≤◌, true, false, [], drop, Some, MatchResult, ◌≢◌};
 ghost use Rattle.link_growth.specs.Entries.{at, Mem, Has};
+ghost use Rattle.links.specs.Holding.{OfPlace};
 ghost use Rattle.links.specs.Tables.{content, Kept, Added, Refused, Placed, Turned, StartsAt};
 
 use crate::fault::TooManyLinks;
+use crate::over::Over;
 use crate::table::Table;
 use link_growth::Link;
 use states::StateSource;
-
-/// Whether two links are the same.
-fn same(a: Link, b: Link) -> bool
-    ensures equal { result ≡ true → a ≡ b }
-    ensures other { result ≡ false → a ≢ b }
-{
-    a.state == b.state && a.place == b.place && a.below == b.below && a.below_place == b.below_place
-}
 
 impl Table {
     /// A table with no links, at place 0.
@@ -36,14 +30,40 @@ impl Table {
         }
     }
 
-    /// Where the links of the place i begin; past the last place, where the links end.
-    pub(crate) fn start_of(&self, i: usize) -> usize
-        ensures { StartsAt self.now i result }
+    /// Where the links of a place begin; past the last place, where the links end.
+    pub(crate) fn start_of(&self, place: u8) -> usize
+        ensures { StartsAt self.now place result }
     {
-        if i > self.place as usize {
+        if place > self.place {
             return self.count;
         }
-        self.starts[i] as usize
+        usize::from(self.starts[usize::from(place)])
+    }
+
+    /// Where the links of a place end.
+    pub(crate) fn end_of(&self, place: u8) -> usize
+        ensures { StartsAt self.now (place + 1) result }
+    {
+        if place >= self.place {
+            return self.count;
+        }
+        self.start_of(place + 1)
+    }
+
+    /// The links of a place; none past the last place.
+    pub(crate) fn of_place(&self, place: u8) -> &[Link]
+        ensures { OfPlace (content self.now) place result.now }
+    {
+        let start = self.start_of(place);
+        let end = self.end_of(place);
+        &self.links[start..end]
+    }
+
+    /// The links from the number `from` on; none past the last.
+    pub(crate) fn since(&self, from: usize) -> &[Link]
+        ensures { result.now ≡ drop from (content self.now) }
+    {
+        &self.links[from.min(self.count)..self.count]
     }
 
     /// Whether the table has the link.
@@ -51,14 +71,7 @@ impl Table {
         ensures there { result ≡ true → Mem link (content self.now) }
         ensures absent { result ≡ false → Mem link (content self.now) → ⊥ }
     {
-        let start = self.start_of(link.place as usize);
-        let end = self.start_of(link.place as usize + 1);
-        for k in start..end {
-            if same(self.links[k], link) {
-                return true;
-            }
-        }
-        false
+        self.of_place(link.place).contains(&link)
     }
 
     /// Adds a link of the last place that is not there.
@@ -79,76 +92,33 @@ impl Table {
         Ok(())
     }
 
-    /// Adds a link of the last place, unless it is there.
-    pub(crate) fn add(&mut self, link: Link, limit: usize) -> Result<(), TooManyLinks>
-        requires bound { limit ≤ 4096 }
-        requires here { link.place ≡ self.old.place }
-        requires falls { link.below_place ≤ self.old.place }
-        ensures kept { Kept self.old self.new limit }
-        ensures cases { MatchResult result (λ _. Added (content self.old) (content self.new) link) (λ _. Refused (content self.old) (content self.new) link limit) }
-    {
-        if self.has(link) {
-            return Ok(());
-        }
-        self.push(link, limit)
-    }
-
-    /// Adds the link by the symbol x from the state b at the place i, unless there is no such step.
+    /// Adds the link by the symbol x from the state b at the place i, unless there is no such step or it is there. A link that is known to be
+    /// new is not looked for.
     pub(crate) fn put<S: StateSource>(
         &mut self,
-        source: &S,
+        over: &Over<'_, S>,
         x: u8,
         b: u8,
         i: u8,
-        limit: usize,
+        new: bool,
     ) -> Result<(), TooManyLinks>
-        requires bound { limit ≤ 4096 }
-        requires falls { (s : ℕ) → (S.meaning source.now).next b x ≡ Some s → i ≤ self.old.place }
-        ensures kept { Kept self.old self.new limit }
-        ensures cases { MatchResult result (λ _. Placed (S.meaning source.now) self.old.place x b i (content self.old) (content self.new)) (λ _. Turned (S.meaning source.now) self.old.place x b i limit (content self.old) (content self.new)) }
+        requires falls { (s : ℕ) → (S.meaning over.now.source.now).next b x ≡ Some s → i ≤ self.old.place }
+        requires fresh { new ≡ true → (s : ℕ) → (S.meaning over.now.source.now).next b x ≡ Some s → Has (content self.old) s self.old.place b i → ⊥ }
+        ensures kept { Kept self.old self.new over.now.limit }
+        ensures cases { MatchResult result (λ _. Placed (S.meaning over.now.source.now) self.old.place x b i (content self.old) (content self.new)) (λ _. Turned (S.meaning over.now.source.now) self.old.place x b i over.now.limit (content self.old) (content self.new)) }
     {
-        let Some(s) = source.next(b, x) else {
+        let Some(s) = over.source.next(b, x) else {
             return Ok(());
         };
-        let place = self.place;
-        self.add(
-            Link {
-                state: s,
-                place,
-                below: b,
-                below_place: i,
-            },
-            limit,
-        )
-    }
-
-    /// Adds the link by the symbol x from the state b at the place i, which is not there, unless there is no such step.
-    pub(crate) fn put_new<S: StateSource>(
-        &mut self,
-        source: &S,
-        x: u8,
-        b: u8,
-        i: u8,
-        limit: usize,
-    ) -> Result<(), TooManyLinks>
-        requires bound { limit ≤ 4096 }
-        requires falls { (s : ℕ) → (S.meaning source.now).next b x ≡ Some s → i ≤ self.old.place }
-        requires fresh { (s : ℕ) → (S.meaning source.now).next b x ≡ Some s → Has (content self.old) s self.old.place b i → ⊥ }
-        ensures kept { Kept self.old self.new limit }
-        ensures cases { MatchResult result (λ _. Placed (S.meaning source.now) self.old.place x b i (content self.old) (content self.new)) (λ _. Turned (S.meaning source.now) self.old.place x b i limit (content self.old) (content self.new)) }
-    {
-        let Some(s) = source.next(b, x) else {
-            return Ok(());
+        let link = Link {
+            state: s,
+            place: self.place,
+            below: b,
+            below_place: i,
         };
-        let place = self.place;
-        self.push(
-            Link {
-                state: s,
-                place,
-                below: b,
-                below_place: i,
-            },
-            limit,
-        )
+        if !new && self.has(link) {
+            return Ok(());
+        }
+        self.push(link, over.limit)
     }
 }

@@ -39,11 +39,9 @@ impl Links {
         ensures value { OfPlace (links_of self.now) place result.now }
         ensures linked { (src : Source) (ws : List ℕ) → Holds src ws self.now → (s b i : ℕ) → Mem (lnk s place b i) result.now ↔ Linked src ws s place b i }
     {
-        if place > self.table.place as usize {
-            return &self.table.links[0..0];
+        match u8::try_from(place) {
+            Ok(place) => self.table.of_place(place),
+            Err(_) => &[],
         }
-        let start = self.table.start_of(place);
-        let end = self.table.start_of(place + 1);
-        &self.table.links[start..end]
     }
 }

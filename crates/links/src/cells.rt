@@ -1,20 +1,20 @@
 //! A set of cells: states at places.
-ghost use Rattle.std.specs.Prelude.{◌≡◌, ℕ, ◌<◌, ◌≤◌, true, false, length, take, slice_index, slice_index_or};
-ghost use Rattle.links.specs.Listing.{listed, distinct};
+ghost use Rattle.std.specs.Prelude.{◌≡◌, ℕ, ◌<◌, true, [], length, slice_index_or};
+ghost use Rattle.link_growth.specs.declared.Cell.{Cell as SomeCell};
+ghost use Rattle.links.specs.Listing.{listed, distinct, mark};
 
-/// The first `count` of `list`, each once; the cell of the state s at the place i is the number 256 i + s. The cells of the set, and no
-/// others, are marked, so that a set is emptied by its own cells alone. `seen[i]` may be an index of a cell of the place i: it is looked at
-/// before it is believed, so that it is never cleared.
+use arrayvec::ArrayVec;
+use link_growth::Cell;
+
+/// The cells of the set are in `list`, each once. They, and no others, are marked, so that a set is emptied by its own cells alone.
+/// `seen[i]` may be an index of a cell of the place i: it is looked at before it is believed, so that it is never cleared.
 #[derive(Drop)]
 pub(crate) struct Cells {
-    pub(crate) marks: [bool; 65536],
-    pub(crate) list: [u16; 4097],
-    pub(crate) count: usize,
-    pub(crate) seen: [u16; 256],
-    ghost flags: { length marks ≡ 65536 },
-    ghost room: { length list ≡ 4097 },
-    ghost few: { count ≤ 4097 },
-    ghost small: { ((k : ℕ) → k < count → slice_index list k < 65536) },
-    ghost marked: { ((c : ℕ) → slice_index_or marks c false ≡ listed c (take count list)) },
-    ghost once: { distinct (take count list) ≡ true },
+    pub(crate) marks: [[bool; 256]; 256],
+    pub(crate) list: ArrayVec<Cell, 4097>,
+    pub(crate) seen: [usize; 256],
+    ghost places: { length marks ≡ 256 },
+    ghost states: { ((i : ℕ) → i < 256 → length (slice_index_or marks i []) ≡ 256) },
+    ghost marked: { ((c : SomeCell) → mark marks c ≡ listed c list.items) },
+    ghost once: { distinct list.items ≡ true },
 }

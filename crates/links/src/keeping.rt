@@ -6,6 +6,7 @@ ghost use Rattle.links.specs.Holding.{Blank, Holds, Ready, Opened};
 use crate::cells::Cells;
 use crate::fault::TooManyLinks;
 use crate::links::Links;
+use crate::over::Over;
 use crate::table::Table;
 use states::StateSource;
 
@@ -22,11 +23,12 @@ impl Links {
     }
 
     /// Closes place 0 of a table that is blank.
-    fn begin<S: StateSource>(&mut self, source: &S, limit: usize) -> Result<(), TooManyLinks>
+    fn begin<S: StateSource>(&mut self, over: &Over<'_, S>) -> Result<(), TooManyLinks>
         requires { Blank self.old }
-        ensures { Opened (S.meaning source.now) limit self.old result self.new }
+        ensures { Opened (S.meaning over.now.source.now) over.now.limit self.old result self.new }
     {
-        match self.close(source, limit.min(4096)) {
+        // By match: the table is emptied before the refusal is handed on.
+        match self.close(over) {
             Ok(()) => Ok(()),
             Err(full) => {
                 self.table.clear();
@@ -39,10 +41,11 @@ impl Links {
     pub fn open<S: StateSource>(&mut self, source: &S, limit: usize) -> Result<(), TooManyLinks>
         ensures { Ready (S.meaning source.now) self.old → Opened (S.meaning source.now) limit self.old result self.new }
     {
+        let over = Over::new(source, limit);
         if self.table.place == 0 && self.table.count == 0 {
-            return self.begin(source, limit);
+            return self.begin(&over);
         }
-        if self.table.start_of(1) > limit.min(4096) {
+        if self.table.start_of(1) > over.limit {
             return Err(TooManyLinks);
         }
         self.table.cut(0);

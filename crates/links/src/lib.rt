@@ -10,6 +10,7 @@ mod firing;
 mod keeping;
 mod levels;
 mod links;
+mod over;
 mod seeds;
 mod sets;
 mod shifting;

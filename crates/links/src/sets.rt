@@ -1,16 +1,32 @@
 //! Adding to a set of cells, and taking from it.
-ghost use Rattle.std.specs.Prelude.{◌≡◌, ℕ, ◌+◌, ◌*◌, ◌<◌, ◌≤◌, true, false, List, [], length, MatchOption};
-ghost use Rattle.link_growth.specs.Entries.{cell, Mem};
+ghost use Rattle.std.specs.Prelude.{◌≡◌, ◌<◌, true, false, [], length};
+ghost use Rattle.link_growth.specs.Entries.{Mem, upper, lower};
 ghost use Rattle.link_growth.specs.Picking.{Inserted};
+ghost use Rattle.links.specs.Listing.{place_at};
 ghost use Rattle.links.specs.Sets.{cells_of, Popped, Revisits};
 
 use crate::cells::Cells;
+use arrayvec::ArrayVec;
+use link_growth::{Cell, Link};
 
-/// The cell of a state at a place.
-pub(crate) fn cell_of(state: u8, place: u8) -> u16
-    ensures { result ≡ cell state place }
+/// The cell that a link leads from.
+pub(crate) fn upper_of(link: &Link) -> Cell
+    ensures { result ≡ upper link.now }
 {
-    u16::from(place) * 256 + u16::from(state)
+    Cell {
+        state: link.state,
+        place: link.place,
+    }
+}
+
+/// The cell that a link leads down to.
+pub(crate) fn lower_of(link: &Link) -> Cell
+    ensures { result ≡ lower link.now }
+{
+    Cell {
+        state: link.below,
+        place: link.below_place,
+    }
 }
 
 impl Cells {
@@ -19,60 +35,60 @@ impl Cells {
         ensures { cells_of result ≡ [] }
     {
         Cells {
-            marks: [false; 65536],
-            list: [0; 4097],
-            count: 0,
+            marks: [[false; 256]; 256],
+            list: ArrayVec::new(),
             seen: [0; 256],
         }
     }
 
     /// Whether a cell is in the set.
-    pub(crate) fn has(&self, c: u16) -> bool
+    pub(crate) fn has(&self, c: Cell) -> bool
         ensures there { result ≡ true → Mem c (cells_of self.now) }
         ensures absent { result ≡ false → Mem c (cells_of self.now) → ⊥ }
     {
-        self.marks[c as usize]
+        self.marks[usize::from(c.place)][usize::from(c.state)]
+    }
+
+    /// The place of the cell k.
+    pub(crate) fn place_of(&self, k: usize) -> u8
+        requires { k < length (cells_of self.now) }
+        ensures { result ≡ place_at (cells_of self.now) k }
+    {
+        self.list.as_slice()[k].place
     }
 
     /// Whether an earlier cell is known to be at the place of the cell k; that place is known from then on.
     pub(crate) fn revisits(&mut self, k: usize) -> bool
-        requires { k < self.old.count }
+        requires { k < length (cells_of self.old) }
         ensures { Revisits self.old k result self.new }
     {
-        let place = self.list[k] / 256;
-        let h = self.seen[place as usize] as usize;
-        if h < k && self.list[h] / 256 == place {
+        let place = self.place_of(k);
+        let h = self.seen[usize::from(place)];
+        if h < k && self.place_of(h) == place {
             return true;
         }
-        self.seen[place as usize] = k as u16;
+        self.seen[usize::from(place)] = k;
         false
     }
 
     /// Adds a cell, unless it is there.
-    pub(crate) fn insert(&mut self, c: u16)
+    pub(crate) fn insert(&mut self, c: Cell)
         requires { (Mem c (cells_of self.old) → ⊥) → length (cells_of self.old) < 4097 }
         ensures { Inserted c (cells_of self.old) (cells_of self.new) }
     {
-        if self.marks[c as usize] {
+        if self.has(c) {
             return;
         }
-        let n = self.count;
-        self.marks[c as usize] = true;
-        self.list[n] = c;
-        self.count = n + 1;
+        self.marks[usize::from(c.place)][usize::from(c.state)] = true;
+        self.list.push(c);
     }
 
     /// Takes a cell out; none where there is none.
-    pub(crate) fn pop(&mut self) -> Option<u16>
+    pub(crate) fn pop(&mut self) -> Option<Cell>
         ensures { Popped self.old result self.new }
     {
-        if self.count == 0 {
-            return None;
-        }
-        let n = self.count - 1;
-        let c = self.list[n];
-        self.marks[c as usize] = false;
-        self.count = n;
+        let c = self.list.pop()?;
+        self.marks[usize::from(c.place)][usize::from(c.state)] = false;
         Some(c)
     }
 

@@ -3,10 +3,11 @@ ghost use Rattle.std.specs.Prelude.{◌≡◌, ℕ, ◌+◌, ◌-◌, ◌<◌, �
 ghost use Rattle.parsing.specs.Links.{LiveOf};
 ghost use Rattle.link_growth.specs.Entries.{Has};
 ghost use Rattle.link_growth.specs.Growth.{Grown, Overfull, Stepped, Shut};
-ghost use Rattle.links.specs.Tables.{content, Kept, FirstStepped, LinksStepped, Begun, Cut};
+ghost use Rattle.links.specs.Tables.{content, Along, FirstStepped, LinksStepped, Begun, Cut};
 
 use crate::fault::TooManyLinks;
 use crate::links::Links;
+use crate::over::Word;
 use crate::table::Table;
 use states::StateSource;
 
@@ -17,7 +18,7 @@ impl Table {
         ensures { Begun self.old self.new }
     {
         let place = self.place + 1;
-        self.starts[place as usize] = self.count as u16;
+        self.starts[usize::from(place)] = self.count as u16;
         self.place = place;
     }
 
@@ -35,7 +36,7 @@ impl Table {
         requires { k ≤ self.old.place }
         ensures { Cut k self.old self.new }
     {
-        let count = self.start_of(k as usize + 1);
+        let count = self.end_of(k);
         self.count = count;
         self.place = k;
     }
@@ -48,95 +49,50 @@ impl Table {
         if self.place == 0 && source.next(source.first(), x).is_some() {
             return true;
         }
-        let start = self.start_of(self.place as usize);
-        for k in start..self.count {
-            if source.next(self.links[k].state, x).is_some() {
-                return true;
-            }
-        }
-        false
+        self.of_place(self.place)
+            .iter()
+            .any(|link| source.next(link.state, x).is_some())
     }
 
     /// The word rule from the first state, where it is live at the place below the last.
-    fn shift_first<S: StateSource>(
-        &mut self,
-        source: &S,
-        x: u8,
-        limit: usize,
-    ) -> Result<(), TooManyLinks>
-        requires bound { limit ≤ 4096 }
-        requires later { 0 < self.old.place }
-        requires word { x < (S.meaning source.now).grammar.terminals }
-        ensures kept { Kept self.old self.new limit }
-        ensures grown { Grown (S.meaning source.now) (Some x) self.old.place (content self.old) (content self.new) }
-        ensures cases { MatchResult result (λ _. FirstStepped (S.meaning source.now) x self.old.place (content self.new)) (λ _. Overfull (S.meaning source.now) (Some x) self.old.place (content self.old) limit) }
+    fn shift_first<S: StateSource>(&mut self, word: &Word<'_, S>) -> Result<(), TooManyLinks>
+        ensures along { Along (S.meaning word.now.over.source.now) (Some word.now.x) self.old self.new word.now.over.limit }
+        ensures cases { MatchResult result (λ _. FirstStepped (S.meaning word.now.over.source.now) word.now.x self.old.place (content self.new)) (λ _. Overfull (S.meaning word.now.over.source.now) (Some word.now.x) self.old.place (content self.old) word.now.over.limit) }
     {
         if self.place != 1 {
             return Ok(());
         }
-        let first = source.first();
-        self.put(source, x, first, 0, limit)
+        let first = word.over.source.first();
+        self.put(&word.over, word.x, first, 0, false)
     }
 
     /// The word rule from the states of the links of the place below the last.
-    fn shift_links<S: StateSource>(
-        &mut self,
-        source: &S,
-        x: u8,
-        limit: usize,
-    ) -> Result<(), TooManyLinks>
-        requires bound { limit ≤ 4096 }
-        requires later { 0 < self.old.place }
-        requires word { x < (S.meaning source.now).grammar.terminals }
-        ensures kept { Kept self.old self.new limit }
-        ensures grown { Grown (S.meaning source.now) (Some x) self.old.place (content self.old) (content self.new) }
-        ensures cases { MatchResult result (λ _. LinksStepped (S.meaning source.now) x self.old.place (content self.old) (content self.new)) (λ _. Overfull (S.meaning source.now) (Some x) self.old.place (content self.old) limit) }
+    fn shift_links<S: StateSource>(&mut self, word: &Word<'_, S>) -> Result<(), TooManyLinks>
+        requires { 0 < self.old.place }
+        ensures along { Along (S.meaning word.now.over.source.now) (Some word.now.x) self.old self.new word.now.over.limit }
+        ensures cases { MatchResult result (λ _. LinksStepped (S.meaning word.now.over.source.now) word.now.x self.old.place (content self.old) (content self.new)) (λ _. Overfull (S.meaning word.now.over.source.now) (Some word.now.x) self.old.place (content self.old) word.now.over.limit) }
     {
         let below = self.place - 1;
-        let start = self.start_of(below as usize);
-        let end = self.start_of(self.place as usize);
+        let start = self.start_of(below);
+        let end = self.start_of(self.place);
+        // By index: a link that is added changes the table, from which no slice can be lent meanwhile.
         for k in start..end {
             let b = self.links[k].state;
-            self.put(source, x, b, below, limit)?;
+            self.put(&word.over, word.x, b, below, false)?;
         }
         Ok(())
-    }
-
-    /// The word rule: the links by the word x from the states that are live at the place below the last.
-    pub(crate) fn shift<S: StateSource>(
-        &mut self,
-        source: &S,
-        x: u8,
-        limit: usize,
-    ) -> Result<(), TooManyLinks>
-        requires bound { limit ≤ 4096 }
-        requires later { 0 < self.old.place }
-        requires word { x < (S.meaning source.now).grammar.terminals }
-        ensures kept { Kept self.old self.new limit }
-        ensures grown { Grown (S.meaning source.now) (Some x) self.old.place (content self.old) (content self.new) }
-        ensures cases { MatchResult result (λ _. Stepped (S.meaning source.now) x self.old.place (self.old.place - 1) (content self.old) (content self.new)) (λ _. Overfull (S.meaning source.now) (Some x) self.old.place (content self.old) limit) }
-    {
-        self.shift_first(source, x, limit)?;
-        self.shift_links(source, x, limit)
     }
 }
 
 impl Links {
-    /// The word rule, and then the reductions.
-    pub(crate) fn extend<S: StateSource>(
-        &mut self,
-        source: &S,
-        x: u8,
-        limit: usize,
-    ) -> Result<(), TooManyLinks>
-        requires bound { limit ≤ 4096 }
-        requires later { 0 < self.old.table.place }
-        requires word { x < (S.meaning source.now).grammar.terminals }
-        ensures kept { Kept self.old.table self.new.table limit }
-        ensures grown { Grown (S.meaning source.now) (Some x) self.old.table.place (content self.old.table) (content self.new.table) }
-        ensures cases { MatchResult result (λ _. Stepped (S.meaning source.now) x self.old.table.place (self.old.table.place - 1) (content self.old.table) (content self.new.table) × Shut (S.meaning source.now) self.old.table.place (content self.new.table)) (λ _. Overfull (S.meaning source.now) (Some x) self.old.table.place (content self.old.table) limit) }
+    /// The word rule, from all states that are live at the place below the last, and then the reductions.
+    pub(crate) fn extend<S: StateSource>(&mut self, word: &Word<'_, S>) -> Result<(), TooManyLinks>
+        requires { 0 < self.old.table.place }
+        ensures along { Along (S.meaning word.now.over.source.now) (Some word.now.x) self.old.table self.new.table word.now.over.limit }
+        ensures cases { MatchResult result (λ _. Stepped (S.meaning word.now.over.source.now) word.now.x self.old.table.place (self.old.table.place - 1) (content self.old.table) (content self.new.table) × Shut (S.meaning word.now.over.source.now) self.old.table.place (content self.new.table)) (λ _. Overfull (S.meaning word.now.over.source.now) (Some word.now.x) self.old.table.place (content self.old.table) word.now.over.limit) }
     {
-        self.table.shift(source, x, limit)?;
-        self.close(source, limit)
+        self.table.shift_first(word)?;
+        self.table.shift_links(word)?;
+        self.close(&word.over)
     }
 }

@@ -4,6 +4,7 @@ ghost use Rattle.links.specs.Holding.{Holds, Took};
 
 use crate::fault::TakeFault;
 use crate::links::Links;
+use crate::over::{Over, Word};
 use states::StateSource;
 
 impl Links {
@@ -20,15 +21,20 @@ impl Links {
         if place >= 254 {
             return Err(TakeFault::TooManyWords);
         }
-        if terminal >= source.terminals() as usize {
+        let Ok(x) = u8::try_from(terminal) else {
+            return Err(TakeFault::NoTerminal);
+        };
+        if x >= source.terminals() {
             return Err(TakeFault::NoTerminal);
         }
-        let x = terminal as u8;
         if !self.table.steps(source, x) {
             return Err(TakeFault::NoStep);
         }
+        let over = Over::new(source, limit);
+        let word = Word { over, x };
         self.table.begin();
-        match self.extend(source, x, limit.min(4096)) {
+        // By match: what was added is cut away before the refusal is handed on.
+        match self.extend(&word) {
             Ok(()) => Ok(()),
             Err(_) => {
                 self.table.cut(place);

@@ -94,9 +94,6 @@ module _ (g : Grammar) (fits : ℕ → ℕ → ℕ → Bool) (y : Node) where
   abbrev pub By : ℕ → Node → Type 0
   By r = PartOf g fits r y.from y.to (length (rhs g r))
 
-  pub rules_none : (a : Register Node) → Grew by_node (PartBelow g fits y 0) a a
-  rules_none a = grew_none by_node (PartBelow g fits y 0) a (λ z x. let l = x.rule_in in absurd (omega arith))
-
   by_rule : (r n : ℕ) → lhs g r ≡ y.symbol → r < n → (z : Node) → By r z → PartBelow g fits y n z
   by_rule r n l h z x = record { rule = r; rule_in = h; left = l; by = x }
 

@@ -11,16 +11,16 @@ unmarked zero k h = false≢true h
 unmarked (suc n) zero h = false≢true h
 unmarked (suc n) (suc k) h = unmarked n k h
 
+-- A place that is read by an equal number.
+pub here : (row : List Bool) (a b : ℕ) → a ≡ b → get_or row a false ≡ true → Marked row b
+here row a b e h = subst (λ t. Marked row t) e h
+
+pub not_here : (row : List Bool) (a b : ℕ) → a ≡ b → get_or row a false ≡ false → Marked row b → ⊥
+not_here row a b e h m = false≢true (sym h ∙ subst (λ t. Marked row t) (sym e) m)
+
 -- A mark that is written stands, and no other changes.
 pub marked_here : (row : List Bool) (i : ℕ) → i < length row → Marked (set row i true) i
 marked_here row i l = get_or-set_same row i true false l
-
-pub marked_there : (row : List Bool) (i k : ℕ) → i < length row → Marked row k → Marked (set row i true) k
-marked_there row i k l h = elim (cases_order k i) [
-  | inl e ↦ subst (λ t. Marked (set row i true) t) (sym e) (marked_here row i l)
-  | inr (inl n) ↦ get_or-set_other row i k true false (omega arith) ∙ h
-  | inr (inr n) ↦ get_or-set_other row i k true false (omega arith) ∙ h
-]
 
 pub marked_back : (row : List Bool) (i k : ℕ) → Marked (set row i true) k → Marked row k ⊎ (k ≡ i)
 marked_back row i k h = elim (cases_order k i) [
@@ -35,9 +35,6 @@ one_marked j k row e h = elim (marked_back (replicate 256 false) j k (subst (λ 
 
 pub marked_one : (j : ℕ) (row : List Bool) → row ≡ set (replicate 256 false) j true → j < 256 → Marked row j
 marked_one j row e l = subst (λ t. Marked t j) (sym e) (marked_here (replicate 256 false) j l)
-
-pub added_none : (P : ℕ → Type 0) (row : List Bool) → ((a : ℕ) → P a → ⊥) → Added P row row
-added_none P row f = record { size = refl; kept = λ a h. h; whole = λ a h. absurd (f a h); only = λ a h. inl h }
 
 pub added_then : (P Q S : ℕ → Type 0) (x y z : List Bool) → ((a : ℕ) → P a → S a) → ((a : ℕ) → Q a → S a) → ((a : ℕ) → S a → P a ⊎ Q a)
     → Added P x y → Added Q y z → Added S x z
@@ -56,47 +53,15 @@ added_as P Q x y f g u = record {
   only = λ a h. elim (u.only a h) [ inl w ↦ inl w | inr w ↦ inr (f a w) ];
 }
 
-added_one : (row : List Bool) (k : ℕ) → k < length row → Added (λ a. a ≡ k) row (set row k true)
-added_one row k l = record {
-  size = length-set row k true;
-  kept = λ a h. marked_there row k a l h;
-  whole = λ a e. subst (λ t. Marked (set row k true) t) (sym e) (marked_here row k l);
-  only = λ a h. marked_back row k a h;
-}
-
 -- A loop that marks the places with the property S, by rising place.
 module _ (S : ℕ → Type 0) where
   abbrev pub Upto : ℕ → ℕ → Type 0
   Upto k a = S a × (a < k)
 
-  pub upto_none : (row : List Bool) (k : ℕ) → ((a : ℕ) → S a → k ≤ a) → Added (Upto k) row row
-  upto_none row k f = added_none (Upto k) row (λ a h. let l = f a h.0 in let m = h.1 in omega arith)
-
-  pub upto_taken : (old row : List Bool) (k : ℕ) → k < length row → S k → Added (Upto k) old row → Added (Upto (k + 1)) old (set row k true)
-  upto_taken old row k l s u =
-      added_then (Upto k) (λ a. a ≡ k) (Upto (k + 1)) old row (set row k true)
-      (λ a h. (h.0, let m = h.1 in omega arith))
-      (λ a e. (subst S (sym e) s, omega arith))
-      (λ a h. elim (cases_lt a k) [ inl m ↦ inl (h.0, m) | inr m ↦ inr (let n = h.1 in omega arith) ])
-      u (added_one row k l)
-
-  pub upto_passed : (old row : List Bool) (k : ℕ) → (S k → ⊥) → Added (Upto k) old row → Added (Upto (k + 1)) old row
-  upto_passed old row k f u =
-      added_as (Upto k) (Upto (k + 1)) old row
-      (λ a h. (h.0, let m = h.1 in omega arith))
-      (λ a h. (h.0, elim (cases_lt a k) [ inl m ↦ m | inr m ↦ let n = h.1 in absurd (f (subst S (let e : a ≡ k = omega arith in e) h.0)) ]))
-      u
-
-  pub upto_all : (old row : List Bool) (k : ℕ) → ((a : ℕ) → S a → a < k) → Added (Upto k) old row → Added S old row
-  upto_all old row k f u = added_as (Upto k) S old row (λ a h. h.0) (λ a h. (h, f a h)) u
-
 module _ (h : ℕ → ℕ → Bool) (forward : (a b : ℕ) → h a b ≡ true → a ≤ b) (i j : ℕ) (next : List Bool) where
   -- The places from i on that lead onward to a place below k.
   abbrev pub Reach : ℕ → ℕ → Type 0
   Reach k a = (i ≤ a) × ((b : ℕ) × (b ≤ j) × (h a b ≡ true) × Marked next b × (b < k))
-
-  pub reach_none : (row : List Bool) → Added (Reach i) row row
-  reach_none row = added_none (Reach i) row (λ a w. let l = w.0 in let (b, bj, e, m, k) = w.1 in let f = forward a b e in omega arith)
 
   pub reach_taken : (x y z : List Bool) (k : ℕ) → k ≤ j → Marked next k → Added (Reach k) x y → Added (λ a. (i ≤ a) × (h a k ≡ true)) y z → Added (Reach (k + 1)) x z
   reach_taken x y z k kj m u v =
@@ -133,9 +98,6 @@ module _ (h : ℕ → ℕ → Bool) (i j : ℕ) (before next : List Bool) where
   -- The places of `next` up to j to which a step leads inward from a place below k.
   abbrev pub Reached : ℕ → ℕ → Type 0
   Reached k b = (b ≤ j) × Marked next b × ((a : ℕ) × (i ≤ a) × (a ≤ j) × (h a b ≡ true) × Marked before a × (a < k))
-
-  pub reached_none : (row : List Bool) → Added (Reached i) row row
-  reached_none row = added_none (Reached i) row (λ b w. let (a, l, aj, e, m, k) = w.2 in omega arith)
 
   pub reached_taken : (x y z : List Bool) (k : ℕ) → i ≤ k → k ≤ j → Marked before k
       → Added (Reached k) x y → Added (λ b. (b ≤ j) × (h k b ≡ true) × Marked next b) y z → Added (Reached (k + 1)) x z
@@ -239,13 +201,6 @@ module _ (f : ℕ → ℕ → ℕ → Bool) (forward : (p a b : ℕ) → f p a b
 
       other : (q : ℕ) → p < q → get_or (set rows p row) q [] ≡ get_or rows q []
       other q l = let ne : q ≢ p = λ e. omega arith in get_or-set_other rows p q row [] ne
-
-  pub completes_from : (m i j k n : ℕ) (rows : List (List Bool)) → k ≤ n → Completes f m i j rows k → Completes f m i j rows n
-  completes_from m i j k n rows l c = record {
-    size = c.size;
-    sound = λ p a np pm. c.sound p a (omega arith) pm;
-    whole = λ p a np pm. c.whole p a (omega arith) pm;
-  }
 
   pub leads_none : (m i j : ℕ) (row : List Bool) → i < 256 → row ≡ set (replicate 256 false) i true → Leads f m i j 0 row
   leads_none m i j row il e = record {

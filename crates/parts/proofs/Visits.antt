@@ -1,7 +1,6 @@
 -- Alternatives that go on from some cuts.
-use Rattle.std.proofs.Common.{◌≡◌, ℕ, suc, ◌+◌, ◌-◌, ◌<◌, ◌≤◌, Bool, true, ◌≢◌, List, [], ◌∷◌, length, get_or, set, replicate, sym, refl, ap, ◌∙◌, subst, ap₂, inl, inr, arith, get_or-set_other, get_or-set_same}
+use Rattle.std.proofs.Common.{◌≡◌, ℕ, suc, ◌+◌, ◌-◌, ◌<◌, ◌≤◌, Bool, true, ◌≢◌, List, [], ◌∷◌, length, get_or, set, sym, refl, ap, ◌∙◌, subst, ap₂, inl, inr, arith, get_or-set_other, get_or-set_same}
 use Rattle.std.proofs.lemmas.Bool.{cases_lt}
-use Rattle.std.proofs.lemmas.List.{get_or-replicate}
 use Rattle.parsing.specs.Grammar.{Grammar, rhs}
 use Rattle.spans.specs.Spans.{Path, part_fits}
 use Rattle.spans.proofs.Paths.{path_of}
@@ -54,9 +53,6 @@ module _ (g : Grammar) (fits : ℕ → ℕ → ℕ → Bool) (rows : List (List 
 
     at_other : (c q : ℕ) → q ≤ p → get_or (set ks (p + 1) c) q 0 ≡ get_or ks q 0
     at_other c q l = let ne : q ≢ p + 1 = λ e. omega arith in get_or-set_other ks (p + 1) q c 0 ne
-
-    pub unused_longer : (c : ℕ) → Unused p ks → Unused (p + 1) (set ks (p + 1) c)
-    unused_longer c u q a b = let ne : q ≢ p + 1 = λ e. omega arith in get_or-set_other ks (p + 1) q c 0 ne ∙ u q (omega arith) b
 
     next_cut : (c : ℕ) (z : Alternative) → Extends g fits rows r j (p + 1) (set ks (p + 1) c) z → next z ≡ c
     next_cut c z x = x.same (p + 1) (omega arith) ∙ at_next c
@@ -123,19 +119,9 @@ module _ (g : Grammar) (fits : ℕ → ℕ → ℕ → Bool) (rows : List (List 
         f (subst (λ t. Marked (get_or rows (p + 1) []) t) e (x.marked (p + 1) (omega arith) (omega arith)))
         (subst (λ t. part_fits g fits r p (get_or ks p 0) t ≡ true) e (next_fits z x))
 
-    pub next_low : ((x a b : ℕ) → fits x a b ≡ true → a ≤ b) → (z : Alternative) → Extends g fits rows r j p ks z → get_or ks p 0 ≤ next z
-    next_low forward z x = forward (get_or (rhs g r) p 0) (get_or ks p 0) (next z) (next_fits z x)
-
-    pub next_high : (z : Alternative) → Extends g fits rows r j p ks z → next z ≤ j
-    next_high z x = x.within (p + 1) (omega arith) (omega arith)
-
 module _ (g : Grammar) (fits : ℕ → ℕ → ℕ → Bool) (forward : (x a b : ℕ) → fits x a b ≡ true → a ≤ b) (r i j : ℕ) where
   onward : (p a b : ℕ) → part_fits g fits r p a b ≡ true → a ≤ b
   onward p a b = forward (get_or (rhs g r) p 0) a b
-
-  -- An alternative by a rule without parts begins where it ends.
-  pub none_whole : length (rhs g r) ≡ 0 → (i ≡ j → ⊥) → (z : Alternative) → Whole g fits r i j z → ⊥
-  none_whole e f z x = f (sym x.from ∙ ap (λ t. get_or z.cuts t 0) (sym e) ∙ x.to)
 
   module _ (rows : List (List Bool)) (ml : length (rhs g r) ≤ 7) (rows_are : Completes (part_fits g fits r) (length (rhs g r)) i j rows 1)
       (ks : List ℕ) (first : get_or ks 0 0 ≡ i) where
@@ -188,8 +174,3 @@ module _ (g : Grammar) (fits : ℕ → ℕ → ℕ → Bool) (forward : (x a b :
       within = λ q a l. path_forward (part_fits g fits r) onward (tail z x q l);
       unused = x.unused;
     }
-
-pub first_unused : (i : ℕ) (ks : List ℕ) → ks ≡ set (replicate 8 255) 0 i → Unused 0 ks
-first_unused i ks e q a b =
-    let ne : q ≢ 0 = λ z. omega arith in
-    ap (λ t. get_or t q 0) e ∙ get_or-set_other (replicate 8 255) 0 q i 0 ne ∙ get_or-replicate 8 q 255 0 b

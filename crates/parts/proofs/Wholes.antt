@@ -4,7 +4,7 @@ use Rattle.std.proofs.lemmas.Bool.{cases_lt}
 use Rattle.parsing.specs.Grammar.{Grammar, lhs}
 use Rattle.register.specs.declared.register.Register.{Register}
 use Rattle.register.specs.Registers.{Grew, Lacks}
-use Rattle.register.proofs.Growing.{grew_none, grew_then, grew_as, lacks_then}
+use Rattle.register.proofs.Growing.{grew_then, grew_as, lacks_then}
 use Rattle.records.specs.declared.alternative.Alternative.{Alternative}
 use Rattle.records.specs.declared.node.Node.{Node}
 use Rattle.records.specs.Orders.{by_alternative}
@@ -14,9 +14,6 @@ module _ (g : Grammar) (fits : ℕ → ℕ → ℕ → Bool) (y : Node) where
   -- The alternatives by rule r.
   abbrev pub By : ℕ → Alternative → Type 0
   By r = Whole g fits r y.from y.to
-
-  pub rules_none : (a : Register Alternative) → Grew by_alternative (Of g fits y 0) a a
-  rules_none a = grew_none by_alternative (Of g fits y 0) a (λ z x. let l = x.rule_in in absurd (omega arith))
 
   by_rule : (r n : ℕ) → lhs g r ≡ y.symbol → r < n → (z : Alternative) → By r z → Of g fits y n z
   by_rule r n l h z x = record {

@@ -1,50 +1,15 @@
 //! The alternatives of a node.
-ghost use Rattle.std.specs.Prelude.{◌≡◌, ◌<◌, ◌≤◌, length, replicate, slice_set};
+ghost use Rattle.std.specs.Prelude.{◌≡◌, ◌≤◌, length, replicate, slice_set};
 ghost use Rattle.parsing.specs.Grammar.{rule_count, rhs};
 ghost use Rattle.register.specs.Registers.{Filled};
 ghost use Rattle.records.specs.Orders.{by_alternative};
 ghost use Rattle.parts.specs.Parts.{Unused, Extends, Whole, Of};
 
 use crate::fits::Fits;
-use crate::marks::completes;
+use crate::over::RuleOver;
 use records::{Alternative, Node};
 use register::{Full, Register};
 use states::StateSource;
-
-/// Adds every alternative that begins with the cuts up to part p and goes on along marked places.
-fn visit<S: StateSource, F: Fits>(
-    source: &S,
-    spans: &F,
-    rule: usize,
-    j: u8,
-    rows: &[[bool; 256]; 8],
-    p: usize,
-    cuts: [u8; 8],
-    alternatives: &mut Register<'_, Alternative>,
-) -> Result<(), Full>
-    requires rule { rule < rule_count (S.StateSource.meaning source.now).grammar }
-    requires part { p ≤ length (rhs (S.StateSource.meaning source.now).grammar rule) }
-    requires long { length cuts ≡ 8 }
-    requires unused { Unused p cuts }
-    ensures { Filled by_alternative (Extends (S.StateSource.meaning source.now).grammar (F.Fits.says spans.now) rows.now rule j p cuts) alternatives.old alternatives.new result }
-{
-    if p == source.length(rule) as usize {
-        let _new = alternatives.insert(Alternative {
-            rule: rule as u8,
-            cuts,
-        })?;
-        return Ok(());
-    }
-    let x = source.right(rule, p);
-    for c in cuts[p] as usize..j as usize + 1 {
-        if rows[p + 1][c] && spans.fits(x, cuts[p], c as u8) {
-            let mut longer = cuts;
-            longer[p + 1] = c as u8;
-            visit(source, spans, rule, j, rows, p + 1, longer, alternatives)?;
-        }
-    }
-    Ok(())
-}
 
 /// The cuts of which only the first is used.
 fn first_cut(i: u8) -> [u8; 8]
@@ -55,25 +20,49 @@ fn first_cut(i: u8) -> [u8; 8]
     cuts
 }
 
-/// Adds every alternative by one rule from i to j.
-fn put_alternatives_by<S: StateSource, F: Fits>(
-    source: &S,
-    spans: &F,
-    rule: usize,
-    i: u8,
-    j: u8,
-    alternatives: &mut Register<'_, Alternative>,
-) -> Result<(), Full>
-    requires { rule < rule_count (S.StateSource.meaning source.now).grammar }
-    ensures { Filled by_alternative (Whole (S.StateSource.meaning source.now).grammar (F.Fits.says spans.now) rule i j) alternatives.old alternatives.new result }
-{
-    if source.length(rule) == 0 && i != j {
-        return Ok(());
+impl<S: StateSource, F: Fits> RuleOver<'_, S, F> {
+    /// Adds every alternative that begins with the cuts up to part p and goes on along marked places.
+    fn visit(
+        &self,
+        rows: &[[bool; 256]; 8],
+        p: usize,
+        cuts: [u8; 8],
+        alternatives: &mut Register<'_, Alternative>,
+    ) -> Result<(), Full>
+        requires part { p ≤ length (rhs (S.StateSource.meaning self.now.source.now).grammar self.now.rule) }
+        requires unused { Unused p cuts }
+        ensures { Filled by_alternative (Extends (S.StateSource.meaning self.now.source.now).grammar (F.Fits.says self.now.spans.now) rows.now self.now.rule self.now.j p cuts) alternatives.old alternatives.new result }
+    {
+        if p == self.parts() {
+            let _new = alternatives.insert(Alternative {
+                rule: self.rule,
+                cuts,
+            })?;
+            return Ok(());
+        }
+        let x = self.part(p);
+        for c in cuts[p]..=self.j {
+            if rows[p + 1][usize::from(c)] && self.spans.fits(x, cuts[p], c) {
+                let mut longer = cuts;
+                longer[p + 1] = c;
+                self.visit(rows, p + 1, longer, alternatives)?;
+            }
+        }
+        Ok(())
     }
-    let rows = completes(source, spans, rule, i, j);
-    visit(source, spans, rule, j, &rows, 0, first_cut(i), alternatives)
+
+    /// Adds every alternative by the rule from i to j.
+    fn put_alternatives(&self, alternatives: &mut Register<'_, Alternative>) -> Result<(), Full>
+        ensures { Filled by_alternative (Whole (S.StateSource.meaning self.now.source.now).grammar (F.Fits.says self.now.spans.now) self.now.rule self.now.i self.now.j) alternatives.old alternatives.new result }
+    {
+        if self.parts() == 0 && self.i != self.j {
+            return Ok(());
+        }
+        self.visit(&self.completes(), 0, first_cut(self.i), alternatives)
+    }
 }
 
+// Not one loop with `put_parts`: records of another kind are added, and each promise is told by a property of its own.
 /// Adds every alternative of a node.
 pub fn put_alternatives<S: StateSource, F: Fits>(
     source: &S,
@@ -83,9 +72,16 @@ pub fn put_alternatives<S: StateSource, F: Fits>(
 ) -> Result<(), Full>
     ensures { Filled by_alternative (Of (S.StateSource.meaning source.now).grammar (F.Fits.says spans.now) node (rule_count (S.StateSource.meaning source.now).grammar)) alternatives.old alternatives.new result }
 {
-    for rule in 0..source.rules() as usize {
-        if source.left(rule) == node.symbol {
-            put_alternatives_by(source, spans, rule, node.from, node.to, alternatives)?;
+    for rule in 0..source.rules() {
+        if source.left(usize::from(rule)) == node.symbol {
+            let over = RuleOver {
+                source,
+                spans,
+                rule,
+                i: node.from,
+                j: node.to,
+            };
+            over.put_alternatives(alternatives)?;
         }
     }
     Ok(())

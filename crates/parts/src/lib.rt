@@ -5,6 +5,7 @@ mod alternatives;
 mod fits;
 mod marks;
 mod nodes;
+mod over;
 
 pub use alternatives::put_alternatives;
 pub use fits::Fits;

@@ -1,10 +1,10 @@
 -- The orders of the records tell all records apart.
-use Rattle.std.proofs.Common.{◌≡◌, ℕ, List, [], ◌∷◌, Ordering, Less, Equal, Greater, sym, refl, ap, ◌∙◌, ap₂, arith, eqb-true}
+use Rattle.std.proofs.Common.{◌≡◌, ℕ, ◌==◌, nat_eq, List, [], ◌∷◌, Ordering, Less, Equal, Greater, sym, refl, ap, ◌∙◌, ap₂, arith, eqb-true}
 use Rattle.std.specs.Ordering.{is_eq, ordering_then, nat_cmp}
-use Rattle.std.specs.Cmp.{unsigned_tied}
-use Rattle.std.specs.Cmp.Lexicographic.{slice_cmp}
+use Rattle.std.specs.Cmp.{unsigned_tied, first_so, second_so}
+use Rattle.std.specs.Cmp.Lexicographic.{pointwise, slice_cmp}
 use Rattle.register.specs.Registers.{Faithful}
-use Rattle.records.specs.Cuts.{first, last}
+use Rattle.records.specs.OrderLaws.{same_alternative, alternative_ties}
 use Rattle.records.specs.Orders.{by_node, by_alternative}
 
 same_number : (x y : ℕ) → nat_cmp x y ≡ Equal → x ≡ y
@@ -16,7 +16,7 @@ both_equal Less b h = let z : ◌≡◌ {A = ℕ} 0 1 = cc in absurd (omega arit
 both_equal Equal b h = (refl, h)
 both_equal Greater b h = let z : ◌≡◌ {A = ℕ} 0 1 = cc in absurd (omega arith)
 
-same_list : (xs ys : List ℕ) → slice_cmp nat_cmp xs ys ≡ Equal → xs ≡ ys
+pub same_list : (xs ys : List ℕ) → slice_cmp nat_cmp xs ys ≡ Equal → xs ≡ ys
 same_list [] [] e = refl
 same_list [] (y ∷ ys) e = let z : ◌≡◌ {A = ℕ} 0 1 = cc in absurd (omega arith)
 same_list (x ∷ xs) [] e = let z : ◌≡◌ {A = ℕ} 0 1 = cc in absurd (omega arith)
@@ -33,9 +33,5 @@ node_faithful x y h =
 
 pub alternative_faithful : Faithful by_alternative
 alternative_faithful x y h =
-    let front = ordering_then (ordering_then (nat_cmp (first x) (first y)) (nat_cmp (last x) (last y))) (nat_cmp x.rule y.rule) in
-    let (a, b) = both_equal front (slice_cmp nat_cmp x.cuts y.cuts) h in
-    let (c, d) = both_equal (ordering_then (nat_cmp (first x) (first y)) (nat_cmp (last x) (last y))) (nat_cmp x.rule y.rule) a in
-    let p = same_number x.rule y.rule d in
-    let q = same_list x.cuts y.cuts b in
-    λ i. record { rule = p i; cuts = q i }
+    let t = alternative_ties x y ∙ ap is_eq h in
+    same_alternative x y (first_so (x.rule == y.rule) (pointwise nat_eq x.cuts y.cuts) t) (second_so (x.rule == y.rule) (pointwise nat_eq x.cuts y.cuts) t)

@@ -1,4 +1,5 @@
 -- The law that ties the order of alternatives to `==`.
+--   same_alternative   alternatives of which `==` holds are the same
 --   alternative_ties   `==` holds of the alternatives that the order does not tell apart
 use Rattle.std.specs.Prelude.{◌≡◌, true, ◌&&◌, ◌==◌, nat_eq}
 use Rattle.std.proofs.Common.{refl, ap, ◌∙◌, subst, eqb-true}
@@ -10,7 +11,7 @@ use Rattle.records.specs.declared.alternative.Alternative.{Alternative}
 use Rattle.records.specs.Cuts.{first, last}
 use Rattle.records.specs.Orders.{alternative_cmp, by_alternative}
 
-same_alternative : (x y : Alternative) → x.rule == y.rule ≡ true → pointwise nat_eq x.cuts y.cuts ≡ true → x ≡ y
+pub same_alternative : (x y : Alternative) → x.rule == y.rule ≡ true → pointwise nat_eq x.cuts y.cuts ≡ true → x ≡ y
 same_alternative x y h k =
     let p = eqb-true x.rule y.rule h in
     let q = (bytes_decides x.cuts y.cuts).0 k in

@@ -15,11 +15,12 @@ use std::cmp::Ordering;
 #[derive(Clone, Copy, PartialEq, Eq, Debug)]
 pub struct Alternative {
     pub rule: u8,
+    // 255 and not none: the bytes of a record are laid down.
     pub cuts: [u8; 8],
 }
 
 impl Alternative {
-    /// What a slot without an alternative holds: 255 throughout.
+    /// What a slot without an alternative holds: 255 throughout. It is no `Default`, which would not say 255.
     pub fn blank() -> Alternative
         ensures { result ≡ blank_alternative }
     {
@@ -40,17 +41,12 @@ impl Alternative {
     pub fn last_cut(&self) -> u8
         ensures { result ≡ last self.now }
     {
-        let mut last = self.cuts[0];
-        for cut in self.cuts {
-            if cut == 255 {
-                break;
-            }
-            last = cut;
-        }
-        last
+        let used = self.cuts.iter().copied().take_while(|cut| *cut != 255);
+        used.last().unwrap_or(self.cuts[0])
     }
 }
 
+// By hand: the order of the fields is not the order of alternatives.
 impl PartialOrd for Alternative {
     ghost partial_cmp = { as_partial_cmp alternative_cmp };
 

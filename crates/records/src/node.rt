@@ -11,7 +11,7 @@ pub struct Node {
 }
 
 impl Node {
-    /// What a slot without a node holds: 255 throughout.
+    /// What a slot without a node holds: 255 throughout. It is no `Default`, which would not say 255.
     pub fn blank() -> Node
         ensures { result ≡ blank_node }
     {

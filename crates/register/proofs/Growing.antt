@@ -1,7 +1,6 @@
 -- How a register grows, call by call.
-use Rattle.std.proofs.Common.{◌≡◌, ℕ, zero, suc, ◌+◌, ◌-◌, ◌<◌, ◌≤◌, Bool, true, false, ◌⊎◌, List, [], ◌∷◌, length, get_or, Ok, Err, Result, Ordering, Less, Equal, Greater, sym, refl, ap, ◌∙◌, subst, inl, inr, arith}
-use Rattle.std.specs.Cmp.{IsTotalOrder}
-use Rattle.std.specs.Ordering.{ordering_reverse}
+use Rattle.std.proofs.Common.{◌≡◌, ℕ, zero, suc, ◌+◌, ◌-◌, ◌<◌, ◌≤◌, Bool, true, false, ◌⊎◌, List, [], ◌∷◌, length, get_or, Ok, Err, Result, Ordering, Equal, sym, refl, ap, ◌∙◌, subst, inl, inr, arith}
+use Rattle.std.specs.Cmp.{IsTotalOrder, tied_itself}
 use Rattle.std.specs.List.{insert}
 use Rattle.std.proofs.lemmas.List.Edits.{length-insert, get_or-insert_below, get_or-insert_at, get_or-insert_above}
 use Rattle.std.proofs.lemmas.Bool.{cases_order, cases_lt}
@@ -57,12 +56,7 @@ module _ {X : Type 0} where
 
 module _ {X : Type 0} {R : X → X → Ordering} (o : IsTotalOrder R) where
   equal_self : (x y : X) → x ≡ y → R x y ≡ Equal
-  equal_self x y e = subst (λ w. R x w ≡ Equal) e (self (R x x) (o.antisymm x x))
-    where
-      self : (r : Ordering) → r ≡ ordering_reverse r → r ≡ Equal
-      self Less h = cc
-      self Equal h = refl
-      self Greater h = cc
+  equal_self x y e = subst (λ w. R x w ≡ Equal) e (tied_itself o x)
 
   pub climbs_apart : (xs : List X) → Climbs o xs → Apart xs
   climbs_apart xs up i j d ij jl e =
@@ -141,13 +135,6 @@ module _ {X : Type 0} {R : X → X → Ordering} (o : IsTotalOrder R) where
         };
       })
 
-  -- Some growth from the start, and then a call that adds the rest.
-  pub filled_then : {U : Type 0} (P Q S : X → Type 0) (a b c : Register X) (r : Result U Full)
-      → ((z : X) → P z → S z) → ((z : X) → Q z → S z) → ((z : X) → S z → P z ⊎ Q z)
-      → Grew o P a b → Filled o Q b c r → Filled o S a c r
-  filled_then P Q S a b c (Ok m) p q s u h = grew_then P Q S a b c p q s u h
-  filled_then P Q S a b c (Err e) p q s u h = lacks_then P Q S a b c p q u h
-
   pub filled_as : {U : Type 0} (P Q : X → Type 0) (a b : Register X) (r : Result U Full)
       → ((z : X) → P z → Q z) → ((z : X) → Q z → P z) → Filled o P a b r → Filled o Q a b r
   filled_as P Q a b (Ok m) f g h = grew_as P Q a b f g h
@@ -162,9 +149,6 @@ module _ {X : Type 0} {R : X → X → Ordering} (o : IsTotalOrder R) (S : X →
   -- Those with a key below k.
   abbrev pub Upto : ℕ → X → Type 0
   Upto k z = S z × (key z < k)
-
-  pub keyed_none : (a : Register X) (k : ℕ) → ((z : X) → S z → k ≤ key z) → Grew o (Upto k) a a
-  keyed_none a k f = grew_none o (Upto k) a (λ z h. let x = f z h.0 in let y = h.1 in absurd (omega arith))
 
   pub keyed_taken : (Q : X → Type 0) (a b c : Register X) (k : ℕ) → ((z : X) → Q z → S z × (key z ≡ k)) → ((z : X) → S z → key z ≡ k → Q z)
       → Grew o (Upto k) a b → Grew o Q b c → Grew o (Upto (k + 1)) a c

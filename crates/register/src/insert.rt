@@ -14,9 +14,7 @@ impl<T: Copy> Register<'_, T> {
         ensures put { held self.new ≡ insert (held self.old) place x }
     {
         let count = self.count;
-        for k in (place..count).rev() {
-            self.slots[k + 1] = self.slots[k];
-        }
+        self.slots.copy_within(place..count, place + 1);
         self.slots[place] = x;
         self.count = count + 1;
     }

@@ -36,8 +36,7 @@ impl<T: Copy> Register<'_, T> {
         ensures kept { held self.new ≡ held self.old }
         ensures slots { self.new.slots.now ≡ held self.old ++ replicate (room self.old - length (held self.old)) x }
     {
-        for k in self.count..self.slots.len() {
-            self.slots[k] = x;
-        }
+        // Not `fill`: it asks for a clone that cannot fail, which a record of any kind does not promise.
+        self.slots[self.count..].fill_with(|| x);
     }
 }

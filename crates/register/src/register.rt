@@ -8,6 +8,7 @@ pub struct Full;
 /// The first `count` of the lent slots hold the records.
 #[derive(Drop)]
 pub struct Register<'a, T> {
+    // With a count beside them: the slots are lent, and those past the records are not the register's.
     pub(crate) slots: &'a mut [T],
     pub(crate) count: usize,
     ghost within: { count ≤ length slots.now },

@@ -1,33 +1,25 @@
 -- The items of a row and the symbols of a set, as the code tests and sets them.
-use Rattle.std.proofs.Common.{◌≡◌, ℕ, ◌*◌, ◌/◌, ◌%◌, ◌^◌, ◌<◌, ◌≤◌, Bool, true, false, eqb, ◌⊎◌, List, length, get_or, set, replicate, sym, ap, ◌∙◌, subst, inl, inr, ⊎_elim, arith}
+use Rattle.std.proofs.Common.{◌≡◌, ℕ, ◌*◌, ◌/◌, ◌%◌, ◌^◌, ◌<◌, ◌≤◌, Bool, true, false, eqb, ◌⊎◌, List, length, get_or, set, replicate, Decides, MatchBool, ◌≢◌, w8, w64, refl, sym, ap, ◌∙◌, inl, inr, ⊎_elim, arith}
 use native.Mathlib.Decide.{ℕ_discrete}
 use lib.Bits.{bit_or}
-use Rattle.std.proofs.lemmas.Nat.{one_shl}
+use Rattle.std.proofs.lemmas.Nat.Bits.{bit_at-zero, bit_at_above, bit_at_set_same, bit_at_set_other, same_from_bits}
 use Rattle.std.proofs.lemmas.List.{get_or-set_same, get_or-set_other, get_or_past, get_or-replicate, ext_get_or}
-use Rattle.std.proofs.lemmas.Bool.{cases_lt}
+use Rattle.std.proofs.lemmas.Bool.{cases_lt, both_ways}
 use Rattle.std.proofs.lemmas.Bool.Decides.{nat_tests}
 use Rattle.parsing.specs.Rows.{bit, has}
-use Rattle.parsing.proofs.Rows.{same_bits}
 use Rattle.rows.specs.Changes.{Adds, Joins}
 use Rattle.rows.specs.Rows.{items}
 use Rattle.rows.specs.declared.row.Row.{Row}
-use Rattle.rows.proofs.Bits.{bit_zero, bit_past, bit_set_same, bit_set_other}
 
 -- Bit d of b, as a test.
 abbrev on : ℕ → ℕ → Bool
 on b d = eqb (bit b d) 1
 
 pub on_zero : (d : ℕ) → on 0 d ≡ false
-on_zero d = ap (λ (x : ℕ). eqb x 1) (bit_zero d)
+on_zero d = ap (λ (x : ℕ). eqb x 1) (bit_at-zero d)
 
 pub on_past : (b n d : ℕ) → b < 2 ^ n → n ≤ d → on b d ≡ false
-on_past b n d h l = ap (λ (x : ℕ). eqb x 1) (bit_past b n d h l)
-
-on_set_same : (b d : ℕ) → on (bit_or b (2 ^ d)) d ≡ true
-on_set_same b d = ap (λ (x : ℕ). eqb x 1) (bit_set_same b d)
-
-on_set_other : (b d e : ℕ) → (e ≡ d → ⊥) → on (bit_or b (2 ^ d)) e ≡ on b e
-on_set_other b d e n = ap (λ (x : ℕ). eqb x 1) (bit_set_other b d e n)
+on_past b n d h l = ap (λ (x : ℕ). eqb x 1) (bit_at_above b n d h l)
 
 -- A bit is told by its test.
 same_bit : (a b : ℕ) → eqb (a % 2) 1 ≡ eqb (b % 2) 1 → a % 2 ≡ b % 2
@@ -78,35 +70,37 @@ module _ (xs : List ℕ) (r d b : ℕ) (h : r < length xs) (t : on b d ≡ true)
 pub set_adds : (xs : List ℕ) (r d : ℕ) → r < length xs → d < 8
     → Adds (has xs) r d (has (set xs r (bit_or (get_or xs r 0) ((1 * 2 ^ d) % 256))))
 set_adds xs r d h k =
-    subst (λ (b : ℕ). Adds (has xs) r d (has (set xs r (bit_or (get_or xs r 0) b)))) (sym (one_shl d 8 k))
-    (byte_adds xs r d (bit_or (get_or xs r 0) (2 ^ d)) h (on_set_same (get_or xs r 0) d) (on_set_other (get_or xs r 0) d))
+    byte_adds xs r d (bit_or (get_or xs r 0) ((1 * 2 ^ d) % 256)) h
+    (ap (λ (x : ℕ). eqb x 1) (bit_at_set_same w8 (get_or xs r 0) d k))
+    (λ e n. ap (λ (x : ℕ). eqb x 1) (bit_at_set_other w8 (get_or xs r 0) d k e n))
 
 -- Bit x of a set of symbols set.
-pub bit_joins : (b x : ℕ) → x < 64 → Joins (on b) x (on (bit_or b ((1 * 2 ^ x) % 2 ^ 64)))
-bit_joins b x h =
-    subst (λ (p : ℕ). Joins (on b) x (on (bit_or b p))) (sym (one_shl x 64 h))
-    (record { kept = keeps; added = λ l. on_set_same b x; only = only })
-  where
-    keeps : (X : ℕ) → on b X ≡ true → on (bit_or b (2 ^ x)) X ≡ true
-    keeps X k =
-        elim (ℕ_discrete X x) [
-          | yes e ↦ ap (on (bit_or b (2 ^ x))) e ∙ on_set_same b x
-          | no n ↦ on_set_other b x X n ∙ k
-        ]
+module _ (b x : ℕ) (h : x < 64) where
+  pub bit_joins : Joins (on b) x (on (bit_or b ((1 * 2 ^ x) % 2 ^ 64)))
+  bit_joins = record { kept = keeps; added = λ l. here; only = only }
+    where
+      here : on (bit_or b ((1 * 2 ^ x) % 2 ^ 64)) x ≡ true
+      here = ap (λ (y : ℕ). eqb y 1) (bit_at_set_same w64 b x h)
 
-    only : (X : ℕ) → on (bit_or b (2 ^ x)) X ≡ true → (on b X ≡ true) ⊎ ((X ≡ x) × (X < 64))
-    only X k = elim (ℕ_discrete X x) [ yes e ↦ inr (e, omega arith) | no n ↦ inl (sym (on_set_other b x X n) ∙ k) ]
+      others : (X : ℕ) → (X ≡ x → ⊥) → on (bit_or b ((1 * 2 ^ x) % 2 ^ 64)) X ≡ on b X
+      others X n = ap (λ (y : ℕ). eqb y 1) (bit_at_set_other w64 b x h X n)
 
--- Rows of the same bytes are equal, and so are their items.
-pub equal_bytes : (v w : Row) → length v.items ≡ 64 → length w.items ≡ 64
-    → ((k : ℕ) → k < 64 → get_or v.items k 0 ≡ get_or w.items k 0) → v ≡ w
-equal_bytes v w l m f =
+      keeps : (X : ℕ) → on b X ≡ true → on (bit_or b ((1 * 2 ^ x) % 2 ^ 64)) X ≡ true
+      keeps X k = elim (ℕ_discrete X x) [ yes e ↦ ap (on (bit_or b ((1 * 2 ^ x) % 2 ^ 64))) e ∙ here | no n ↦ others X n ∙ k ]
+
+      only : (X : ℕ) → on (bit_or b ((1 * 2 ^ x) % 2 ^ 64)) X ≡ true → (on b X ≡ true) ⊎ ((X ≡ x) × (X < 64))
+      only X k = elim (ℕ_discrete X x) [ yes e ↦ inr (e, omega arith) | no n ↦ inl (sym (others X n) ∙ k) ]
+
+-- Rows of the same items have the same bytes, and are equal.
+same_byte : (a b : ℕ) → ((d : ℕ) → on a d ≡ on b d) → a ≡ b
+same_byte a b f = same_from_bits a b (λ d. same_bit (a / 2 ^ d) (b / 2 ^ d) (f d))
+
+pub same_items : (v w : Row) → length v.items ≡ length w.items → items v ≡ items w → v ≡ w
+same_items v w l e =
     ap (λ (xs : List ℕ). record { items = xs })
-    (ext_get_or 0 v.items w.items (l ∙ sym m) (λ k h. f k (omega (arith, l))))
+    (ext_get_or 0 v.items w.items l
+    (λ k h. same_byte (get_or v.items k 0) (get_or w.items k 0) (λ d. ap (λ (f : ℕ → ℕ → Bool). f k d) e)))
 
--- Rows that differ in a byte differ in an item of it.
-pub other_byte : (v w : Row) (r : ℕ) → get_or v.items r 0 < 256 → get_or w.items r 0 < 256
-    → (get_or v.items r 0 ≡ get_or w.items r 0 → ⊥) → items v ≡ items w → ⊥
-other_byte v w r l m n e =
-    n (same_bits 8 (get_or v.items r 0) (get_or w.items r 0) l m
-    (λ d k. same_bit (get_or v.items r 0 / 2 ^ d) (get_or w.items r 0 / 2 ^ d) (ap (λ (f : ℕ → ℕ → Bool). f r d) e)))
+pub same_rows : (v w : Row) (b : Bool) → length v.items ≡ length w.items → Decides b (v.items ≡ w.items) → MatchBool b (items v ≡ items w) (items v ≢ items w)
+same_rows v w true l d = ap (λ (xs : List ℕ). has xs) (d.0 refl)
+same_rows v w false l d = λ e. both_ways false refl (d.1 (ap (λ (u : Row). u.items) (same_items v w l e)))

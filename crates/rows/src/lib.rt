@@ -8,3 +8,4 @@ mod step;
 mod symbols;
 
 pub use row::Row;
+pub use symbols::SymbolSet;

@@ -1,18 +1,14 @@
 //! A row of items: what it has, adding to it, and comparing two.
-ghost use Rattle.std.specs.Prelude.{◌≡◌, ℕ, ◌<◌, false, ◌&&◌, length, Decides, MatchBool, ◌≢◌, nat_lt};
+ghost use Rattle.std.specs.Prelude.{◌≡◌, ℕ, ◌<◌, false, ◌&&◌, length, MatchBool, ◌≢◌, nat_lt};
 ghost use Rattle.parsing.specs.Grammar.{rule_count, rhs};
 ghost use Rattle.grammar.specs.Meaning.{meaning};
 ghost use Rattle.rows.specs.Rows.{items};
 ghost use Rattle.rows.specs.Changes.{Adds};
-ghost use Rattle.std.specs.Cmp.Rules.{comparing};
-ghost use Rattle.std.proofs.Common.{rules};
-ghost use Rattle.std.specs.Cmp as Keys;
-ghost use Rattle.std.specs.Str.{bytes_eq};
 
 use grammar::Grammar;
 
 /// The items of an LR(0) state: bit d of byte r is the item (r, d), the rule r with d symbols passed.
-#[derive(Clone, Copy, Debug)]
+#[derive(Clone, Copy, Default, PartialEq, Eq, Debug)]
 pub struct Row {
     items: [u8; 64],
 }
@@ -57,28 +53,6 @@ impl Row {
         ensures items { MatchBool result (items self.now ≡ items other.now) (items self.now ≢ items other.now) }
         ensures value { MatchBool result (self.now ≡ other.now) (self.now ≢ other.now) }
     {
-        for rule in 0..64 {
-            if self.items[rule] != other.items[rule] {
-                return false;
-            }
-        }
-        true
+        self == other
     }
-}
-
-impl PartialEq for Row {
-    ghost eq = { λ v w. bytes_eq v.items w.items };
-
-    ghost laws = { Keys.partial_equiv_from_equiv (Prim.search (comparing, rules)) };
-
-    fn eq(&self, other: &Row) -> bool
-        ensures eq { result ≡ bytes_eq self.now.items other.now.items }
-        ensures decides { Decides result (self.now ≡ other.now) }
-    {
-        self.same(other)
-    }
-}
-
-impl Eq for Row {
-    ghost laws = { Prim.search (comparing, rules) };
 }

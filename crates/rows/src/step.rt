@@ -9,6 +9,7 @@ ghost use Rattle.rows.specs.Changes.{Sweeps, Kernel};
 use crate::row::Row;
 use grammar::Grammar;
 
+// The grammar and the symbol are two parameters, and no value of their own: a row is asked for its step by a symbol.
 impl Row {
     /// Adds to `moved` the items of one rule that have the symbol next, with the symbol passed.
     fn sweep(&self, grammar: &Grammar, rule: usize, symbol: usize, moved: &mut Row)

@@ -5,20 +5,20 @@ ghost use Rattle.rows.specs.Changes.{Joins};
 
 /// Bit x is the symbol x. A symbol from 64 on is in no set.
 #[derive(Clone, Copy)]
-pub(crate) struct SymbolSet {
+pub struct SymbolSet {
     bits: u64,
 }
 
 impl SymbolSet {
     /// The set of no symbols.
-    pub(crate) fn empty() -> SymbolSet
+    pub fn empty() -> SymbolSet
         ensures { (X : ℕ) → member result X ≡ false }
     {
         SymbolSet { bits: 0 }
     }
 
     /// Whether the symbol is in the set.
-    pub(crate) fn has(&self, symbol: usize) -> bool
+    pub fn has(&self, symbol: usize) -> bool
         ensures { result ≡ member self.now symbol }
     {
         let bits = self.bits;
@@ -26,7 +26,7 @@ impl SymbolSet {
     }
 
     /// Adds the symbol, if it is below 64.
-    pub(crate) fn add(&mut self, symbol: u8)
+    pub fn add(&mut self, symbol: u8)
         ensures { Joins (member self.old) symbol (member self.new) }
     {
         if symbol < 64 {

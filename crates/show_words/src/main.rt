@@ -2,17 +2,10 @@
 //! end or the refusal.
 #![tactic(auto)]
 
-use std::io::{ErrorKind, Read};
-use std::{fs, io};
+use file_bytes::bytes_of;
+use std::io;
+use std::io::Read;
 use word_listing::report_words;
-
-/// The bytes of a file; none where there is no such file.
-fn bytes_of(rt: &HostRuntime, path: &str) -> io::Result<Vec<u8>> {
-    match fs::read(rt, path) {
-        Err(e) if e.kind() == ErrorKind::NotFound => Ok(Vec::new(rt.alloc())),
-        result => result,
-    }
-}
 
 /// The bytes of the standard input.
 fn input(rt: &HostRuntime) -> io::Result<Vec<u8>> {

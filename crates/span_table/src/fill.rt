@@ -12,12 +12,10 @@ impl SpanTable {
         ensures { Grown (OfWord (S.StateSource.meaning source.now).grammar words.now 255) (told self.old.cells) (told self.new.cells) }
     {
         let terminals = source.terminals();
-        for i in 0..words.len() {
-            if i == 255 {
-                return;
-            }
-            if words[i] < terminals {
-                self.add(words[i], i as u8, i as u8 + 1);
+        let early = &words[..words.len().min(255)];
+        for (i, word) in early.iter().enumerate() {
+            if *word < terminals {
+                self.add(*word, i as u8, i as u8 + 1);
             }
         }
     }
@@ -27,11 +25,9 @@ impl SpanTable {
         ensures { Grown (OfLink (S.StateSource.meaning source.now) link) (told self.old.cells) (told self.new.cells) }
     {
         let first = source.terminals();
-        for x in first as usize..first as usize + source.nonterminals() as usize {
-            if let Some(state) = source.next(link.below, x as u8) {
-                if state == link.state {
-                    self.add(x as u8, link.below_place, link.place);
-                }
+        for x in first..first + source.nonterminals() {
+            if source.next(link.below, x) == Some(link.state) {
+                self.add(x, link.below_place, link.place);
             }
         }
     }
@@ -40,8 +36,8 @@ impl SpanTable {
     pub fn add_links<S: StateSource>(&mut self, source: &S, links: &[Link])
         ensures { Grown (OfLinks (S.StateSource.meaning source.now) links.now (length links.now)) (told self.old.cells) (told self.new.cells) }
     {
-        for k in 0..links.len() {
-            self.add_link(source, links[k]);
+        for link in links {
+            self.add_link(source, *link);
         }
     }
 }

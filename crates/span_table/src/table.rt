@@ -1,14 +1,22 @@
 //! The table, and the look-up.
 ghost use Rattle.std.specs.Prelude.{◌≡◌, ℕ, false};
-ghost use Rattle.span_table.specs.Tables.{told, Grown, One};
+ghost use Rattle.span_table.specs.Tables.{told, Added, Grown, One};
 ghost use Rattle.span_table.specs.TableLaws.{told_parts};
 
 use parts::Fits;
+use rows::SymbolSet;
 
-/// Bit x of the cell of two places says whether the symbol x fits from the one to the other.
+/// For each two places the symbols that fit from the one to the other.
 #[derive(Drop)]
 pub struct SpanTable {
-    cells: [u64; 65536],
+    cells: [[SymbolSet; 256]; 256],
+}
+
+/// Adds the symbol, if it is below 64, to the set at a place of the row.
+fn add_at(row: &mut [SymbolSet; 256], symbol: u8, place: u8)
+    ensures { Added symbol place row.old row.new }
+{
+    row[usize::from(place)].add(symbol);
 }
 
 impl SpanTable {
@@ -16,16 +24,17 @@ impl SpanTable {
     pub fn empty() -> SpanTable
         ensures { (x i j : ℕ) → told result.cells x i j ≡ false }
     {
-        SpanTable { cells: [0; 65536] }
+        let none = SymbolSet::empty();
+        SpanTable {
+            cells: [[none; 256]; 256],
+        }
     }
 
     /// Lets the symbol fit from one place to the other, if it is below 64 and the places do not fall.
     pub(crate) fn add(&mut self, symbol: u8, from: u8, to: u8)
         ensures { Grown (One symbol from to) (told self.old.cells) (told self.new.cells) }
     {
-        if symbol < 64 {
-            self.cells[from as usize * 256 + to as usize] |= 1 << symbol;
-        }
+        add_at(&mut self.cells[usize::from(from)], symbol, to);
     }
 }
 
@@ -35,10 +44,6 @@ impl Fits for SpanTable {
     ghost forward = { λ t x i j h. (told_parts t.cells x i j h).1 };
 
     fn fits(&self, symbol: u8, from: u8, to: u8) -> bool {
-        if to < from {
-            return false;
-        }
-        let cell = self.cells[from as usize * 256 + to as usize];
-        symbol < 64 && (cell >> symbol) & 1 == 1
+        from <= to && self.cells[usize::from(from)][usize::from(to)].has(usize::from(symbol))
     }
 }

@@ -12,18 +12,19 @@ pub enum Answer {
     Refused(u8, usize, usize),
 }
 
-impl Answer {
-    /// What the fault is shown as.
-    pub fn of(fault: TableFault) -> Answer {
+impl From<TableFault> for Answer {
+    fn from(fault: TableFault) -> Answer {
         let refusal = fault.refusal();
         Answer::Refused(refusal.number, refusal.first, refusal.second)
     }
+}
 
+impl Answer {
     /// The answer to a table sheet for a grammar.
     pub fn to(grammar: &Grammar, sheet: &[u8]) -> Answer {
         match Table::check(grammar, sheet) {
             Ok(_) => Answer::Passes,
-            Err(fault) => Answer::of(fault),
+            Err(fault) => fault.into(),
         }
     }
 }

@@ -12,11 +12,7 @@ fn cut(mut sheet: [u8; 499], rule: usize, length: u8) -> [u8; 499] {
     if rule <= 40 {
         let at = 12 + 9 * rule;
         sheet[at + 1] = length;
-        for place in 0..7 {
-            if place >= length {
-                sheet[at + 2 + usize::from(place)] = 255;
-            }
-        }
+        sheet[at + 2 + usize::from(length.min(7))..at + 9].fill(255);
     }
     sheet
 }
@@ -30,10 +26,11 @@ fn cut_chains(length: u8) -> [u8; 499] {
 /// The states of a grammar sheet: how many are built, or why none.
 fn built(sheet: &[u8]) -> Result<Result<u8, Answer>, Fail> {
     let grammar = Grammar::read(sheet)?;
-    match BuiltStates::build(&grammar) {
-        Ok(states) => Ok(Ok(states.states())),
-        Err(fault) => Ok(Err(Answer::of(fault))),
-    }
+    Ok(
+        BuiltStates::build(&grammar)
+            .map(|states| states.states())
+            .map_err(|fault| fault.into()),
+    )
 }
 
 #[test]

@@ -29,7 +29,7 @@ fn check_room(rt: &impl Abort, built: &BuiltStates, room: &mut [u8]) -> Result<(
         }
         Err(fault) => {
             assert_eq!(rt;
-                Answer::of(fault),
+                Answer::from(fault),
                 Refused(31, 60, 0),
                 "in a room of {length}"
             );

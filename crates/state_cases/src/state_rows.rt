@@ -55,11 +55,11 @@ fn check_source<S: StateSource>(rt: &impl Abort, source: &S) {
     assert_eq!(rt; source.first(), 0);
     for state in 0..255u8 {
         for symbol in 0..255u8 {
-            let target = match P_STEPS.get(usize::from(state)) {
-                Some(steps) => steps.get(usize::from(symbol)).copied().unwrap_or(255),
-                None => 255,
-            };
-            let expected = if target == 255 { None } else { Some(target) };
+            let expected = P_STEPS
+                .get(usize::from(state))
+                .and_then(|steps| steps.get(usize::from(symbol)))
+                .copied()
+                .filter(|target| *target != 255);
             assert_eq!(rt; source.next(state, symbol), expected, "{state}; {symbol}");
             let done = P_DONE.get(usize::from(state)).copied().unwrap_or(None);
             assert_eq!(rt;

@@ -33,12 +33,11 @@ pub enum TableFault {
     RoomShort { need: usize },
 }
 
-impl TableFault {
-    /// The refusal that the fault is shown as.
-    pub fn refusal(&self) -> Refusal
-        ensures { result ≡ told self.now }
-    {
-        let (number, first, second) = match *self {
+impl From<TableFault> for Refusal {
+    ghost from_gives = { λ f r. r ≡ told f };
+
+    fn from(fault: TableFault) -> Refusal {
+        let (number, first, second) = match fault {
             TableFault::WholeLength => (20, 0, 0),
             TableFault::CountRange => (21, 0, 0),
             TableFault::Offset => (22, 0, 0),
@@ -66,5 +65,14 @@ impl TableFault {
             first,
             second,
         }
+    }
+}
+
+impl TableFault {
+    /// The refusal that the fault is shown as.
+    pub fn refusal(&self) -> Refusal
+        ensures { result ≡ told self.now }
+    {
+        Refusal::from(*self)
     }
 }

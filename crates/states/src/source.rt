@@ -21,6 +21,7 @@ pub trait StateSource {
     fn rules(&self) -> u8
         ensures { result ≡ rule_count (meaning self.now).grammar };
 
+    // 255 and not none: what a grammar and a source answer outside is laid down.
     /// The left symbol of a rule; 255 outside.
     fn left(&self, rule: usize) -> u8
         ensures { result ≡ left_side (meaning self.now).grammar rule };

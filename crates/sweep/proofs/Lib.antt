@@ -1,3 +1,4 @@
-pub mod Ordering
-pub mod Sweeping
 pub mod Listing
+pub mod Ordering
+pub mod Standing
+pub mod Sweeping

@@ -4,7 +4,7 @@ use Rattle.std.proofs.lemmas.Bool.{cases_lt}
 use Rattle.parsing.specs.Grammar.{Grammar, rule_count}
 use Rattle.register.specs.declared.register.Register.{Register}
 use Rattle.register.specs.Registers.{Grew, Lacks}
-use Rattle.register.proofs.Growing.{grew_none, grew_then, lacks_then}
+use Rattle.register.proofs.Growing.{grew_then, lacks_then}
 use Rattle.records.specs.declared.node.Node.{Node}
 use Rattle.records.specs.declared.alternative.Alternative.{Alternative}
 use Rattle.records.specs.Orders.{by_alternative}
@@ -15,9 +15,6 @@ use Rattle.sweep.specs.Sweeps.{OfSome}
 module _ (g : Grammar) (fits : ℕ → ℕ → ℕ → Bool) (us : List Node) where
   abbrev pub OfOne : ℕ → Alternative → Type 0
   OfOne k = Of g fits (node_of us k) (rule_count g)
-
-  pub some_none : (a : Register Alternative) → Grew by_alternative (OfSome g fits us 0) a a
-  some_none a = grew_none by_alternative (OfSome g fits us 0) a (λ z x. let l = x.index_in in absurd (omega arith))
 
   some_wider : (k n : ℕ) → k ≤ n → (z : Alternative) → OfSome g fits us k z → OfSome g fits us n z
   some_wider k n l z x = record { index = x.index; index_in = let h = x.index_in in omega arith; of = x.of }

@@ -1,12 +1,17 @@
 -- What the order of nodes says of a list that is in order.
-use Rattle.std.proofs.Common.{◌≡◌, ℕ, ◌+◌, ◌-◌, ◌<◌, ◌≤◌, Bool, true, false, ◌⊎◌, List, length, get_or, Ordering, Less, Equal, Greater, sym, refl, ap, ◌∙◌, subst, inl, inr, arith}
-use Rattle.std.specs.Ordering.{ordering_then, ordering_reverse, nat_cmp}
+use Rattle.std.proofs.Common.{◌≡◌, ℕ, ◌+◌, ◌-◌, ◌<◌, ◌≤◌, Bool, true, false, ◌&&◌, ◌||◌, nat_lt, nat_eq, eqb-true, ◌⊎◌, List, length, get_or, take, drop, Some, Ordering, Less, Equal, Greater, sym, refl, ap, ◌∙◌, subst, inl, inr, arith}
+use Rattle.std.specs.Ordering.{ordering_then, nat_cmp}
 use Rattle.std.proofs.lemmas.Cmp.{ranked}
-use Rattle.std.proofs.lemmas.Bool.{cases_lt}
+use Rattle.std.specs.List.{slice_get}
+use Rattle.std.proofs.lemmas.List.{take_rest, length-drop, get_or-drop, length-take-le, get_or-take}
+use Rattle.std.proofs.lemmas.Option.{slice_get_within, get_or_from_slice_get}
+use Rattle.std.specs.List.Sorted.{IsPartitionedBy, IsPartitionPoint}
+use Rattle.std.proofs.lemmas.Bool.{cases_lt, or_cases, and_parts, false≢true}
+use Rattle.std.proofs.lemmas.Bool.Decides.{nat_tests}
+use borrow.Author.Tests.{ltb-true}
 use Rattle.register.specs.Registers.{Has, Climbs}
 use Rattle.records.specs.declared.node.Node.{Node}
 use Rattle.records.specs.Orders.{node_cmp, by_node}
-use Rattle.records.proofs.Faith.{node_faithful}
 use Rattle.sweep.specs.Finding.{node_at, node_of, Before, LowerBound, AllDone, NoneBelow}
 
 split : (a b : Ordering) → ordering_then a b ≡ Less → (a ≡ Less) ⊎ ((a ≡ Equal) × (b ≡ Less))
@@ -30,49 +35,45 @@ node_less x y h = elim (split (nat_cmp x.from y.from) (ordering_then (nat_cmp x.
   )
 ]
 
-node_greater : (x y : Node) → node_cmp x y ≡ Greater → Below y x
-node_greater x y h = node_less y x (by_node.antisymm y x ∙ ap ordering_reverse h)
+-- The test that a node comes before those from i that end at j or later.
+abbrev pub comes_before : ℕ → ℕ → Node → Bool
+comes_before i j z = nat_lt z.from i || (nat_eq z.from i && nat_lt z.to j)
 
-before_target : (z : Node) (i j : ℕ) → Below z (node_at 0 i j) → Before z i j
-before_target z i j (inl l) = inl l
-before_target z i j (inr (e, inl l)) = inr (e, l)
-before_target z i j (inr (e, inr (f, l))) = absurd (omega arith)
+before_from_test : (z : Node) (i j : ℕ) → comes_before i j z ≡ true → Before z i j
+before_from_test z i j h = elim (or_cases (nat_lt z.from i) (nat_eq z.from i && nat_lt z.to j) h) [
+  | inl l ↦ inl (ltb-true z.from i l)
+  | inr l ↦ let (a, b) = and_parts (nat_eq z.from i) (nat_lt z.to j) l in inr (eqb-true z.from i a, ltb-true z.to j b)
+]
 
-not_before : (z : Node) (i j : ℕ) → Below (node_at 0 i j) z → Before z i j → ⊥
-not_before z i j (inl l) (inl k) = omega arith
-not_before z i j (inl l) (inr (e, k)) = omega arith
-not_before z i j (inr (e, inl l)) (inl k) = omega arith
-not_before z i j (inr (e, inl l)) (inr (f, k)) = omega arith
-not_before z i j (inr (e, inr (f, l))) (inl k) = omega arith
-not_before z i j (inr (e, inr (f, l))) (inr (d, k)) = omega arith
+test_from_before : (z : Node) (i j : ℕ) → Before z i j → comes_before i j z ≡ true
+test_from_before z i j (inl l) = grind (arith, nat_tests)
+test_from_before z i j (inr (e, l)) = grind (arith, nat_tests)
+
+below_before : (x y : Node) (i j : ℕ) → Below x y → Before y i j → Before x i j
+below_before x y i j (inl l) (inl m) = inl (omega arith)
+below_before x y i j (inl l) (inr (e, m)) = inl (omega arith)
+below_before x y i j (inr (e, b)) (inl m) = inl (omega arith)
+below_before x y i j (inr (e, inl l)) (inr (f, m)) = inr (e ∙ f, omega arith)
+below_before x y i j (inr (e, inr (d, l))) (inr (f, m)) = inr (e ∙ f, omega arith)
 
 module _ (us : List Node) (i j k : ℕ) where
-  -- The place where the first node from i to j would stand.
-  pub bound_missing : k ≤ length us
-      → (Climbs by_node us → ((t : ℕ) → t < k → node_cmp (node_of us t) (node_at 0 i j) ≡ Less)
-      × ((t : ℕ) → k ≤ t → t < length us → node_cmp (node_of us t) (node_at 0 i j) ≡ Greater))
-      → LowerBound us i j k
-  bound_missing l f = record {
-    within = l;
-    below = λ up t h. before_target (node_of us t) i j (node_less (node_of us t) (node_at 0 i j) ((f up).0 t h));
-    above = λ up t h m. not_before (node_of us t) i j (node_greater (node_of us t) (node_at 0 i j) ((f up).1 t h m));
-  }
+  -- In order, the nodes that come before stand before the others.
+  pub parted : Climbs by_node us → IsPartitionedBy (comes_before i j) us
+  parted up a b d ab bl h = elim (cases_lt a b) [
+    | inl l ↦
+        test_from_before (get_or us a d) i j
+        (below_before (get_or us a d) (get_or us b d) i j (node_less (get_or us a d) (get_or us b d) (up a b d l bl)) (before_from_test (get_or us b d) i j h))
+    | inr l ↦ let q : b ≡ a = omega arith in subst (λ t. comes_before i j (get_or us t d) ≡ true) q h
+  ]
 
-  pub bound_found : k < length us → node_cmp (node_of us k) (node_at 0 i j) ≡ Equal → LowerBound us i j k
-  bound_found l e =
-      let s : node_of us k ≡ node_at 0 i j = node_faithful (node_of us k) (node_at 0 i j) e in
-      record {
-        within = omega arith;
-        below = λ up t h. before_target (node_of us t) i j
-            (subst (λ (y : Node). Below (node_of us t) y) s (node_less (node_of us t) (node_of us k) (up t k (node_at 0 0 0) h l)));
-        above = λ up t h m. elim (cases_lt k t) [
-          | inl n ↦ not_before (node_of us t) i j (subst (λ (y : Node). Below y (node_of us t)) s (node_less (node_of us k) (node_of us t) (up k t (node_at 0 0 0) n m)))
-          | inr n ↦ λ b.
-              let q : k ≡ t = omega arith in
-              let w : Before (node_at 0 i j) i j = subst (λ (y : Node). Before y i j) (ap (node_of us) (sym q) ∙ s) b in
-              elim w [ inl x ↦ omega arith | inr x ↦ let y = x.1 in omega arith ]
-        ];
-      }
+  pub bound_at : k ≤ length us
+      → (Climbs by_node us → IsPartitionPoint (λ y. comes_before i j y ≡ true) (λ y. comes_before i j y ≡ false) us k)
+      → LowerBound us i j k
+  bound_at l f = record {
+    within = l;
+    below = λ up t h. before_from_test (node_of us t) i j ((f up).0 t (node_at 0 0 0) (omega arith) h);
+    above = λ up t h m b. false≢true (sym ((f up).1 t (node_at 0 0 0) h m) ∙ test_from_before (node_of us t) i j b);
+  }
 
 module _ (us : List Node) (i n k : ℕ) (bound : LowerBound us i n k) (up : Climbs by_node us) where
   -- Where a node of the list stands.
@@ -84,11 +85,6 @@ module _ (us : List Node) (i n k : ℕ) (bound : LowerBound us i n k) (up : Clim
     | inl m ↦ m
     | inr m ↦ absurd (bound.above up t m l (subst (λ (y : Node). Before y i n) (sym e) (inr (f, s))))
   ]
-
-  pub none_below : k ≡ 0 → NoneBelow us i n
-  none_below e z h f =
-      let (t, l, q) = place z h in
-      elim (cases_lt z.to n) [ inl s ↦ let m = past z t l q f s in absurd (omega arith) | inr s ↦ s ]
 
   -- A node that is not after the one at k - 1.
   up_to : (z : Node) (t : ℕ) → t < k → node_of us t ≡ z → (z ≡ node_of us (k - 1)) ⊎ Below z (node_of us (k - 1))
@@ -126,19 +122,22 @@ module _ (us : List Node) (i n k : ℕ) (bound : LowerBound us i n k) (up : Clim
             ])
       ]
 
+-- The last of the first k nodes.
+module _ (us : List Node) (k : ℕ) (kl : k ≤ length us) where
+  pub last_some : (x : Node) → slice_get (take k us) (length (take k us) - 1) ≡ Some x → (0 < k) × (node_of us (k - 1) ≡ x)
+  last_some x e =
+      let n = length-take-le k us kl in
+      let w = slice_get_within (take k us) (length (take k us) - 1) x e in (
+        omega arith,
+        sym (get_or-take k us (k - 1) (node_at 0 0 0) (omega arith)) ∙ ap (λ t. node_of (take k us) (t - 1)) (sym n)
+            ∙ get_or_from_slice_get (take k us) (length (take k us) - 1) x (node_at 0 0 0) e,
+      )
+
 -- The nodes from i to j stand together, from the bound on.
 module _ (us : List Node) (i j k : ℕ) (bound : LowerBound us i j k) where
   -- The nodes from k up to m are from i to j, and done.
   abbrev pub Run : List Bool → ℕ → Type 0
   Run done m = (t : ℕ) → k ≤ t → t < m → ((node_of us t).from ≡ i) × ((node_of us t).to ≡ j) × (get_or done (node_of us t).symbol false ≡ true)
-
-  pub run_more : (done : List Bool) (m : ℕ) → (node_of us m).from ≡ i → (node_of us m).to ≡ j → get_or done (node_of us m).symbol false ≡ true → Run done m → Run done (m + 1)
-  run_more done m f s d r t kt tm = elim (cases_lt t m) [
-    | inl l ↦ r t kt l
-    | inr l ↦
-        let q : m ≡ t = omega arith in
-        subst (λ x. ((node_of us x).from ≡ i) × ((node_of us x).to ≡ j) × (get_or done (node_of us x).symbol false ≡ true)) q (f, s, d)
-  ]
 
   -- The run ends at m: all nodes from i to j are in it.
   pub run_all : (done : List Bool) (m : ℕ) → k ≤ m → (m < length us → (node_of us m).from ≡ i → (node_of us m).to ≡ j → ⊥)
@@ -163,3 +162,22 @@ module _ (us : List Node) (i j k : ℕ) (bound : LowerBound us i j k) where
           ]
         ])
       ]
+
+  -- The list from the bound on.
+  abbrev pub tail : List Node
+  tail = take (length us - k) (drop k us)
+
+  pub tail_length : length tail ≡ length us - k
+  tail_length = ap length (take_rest us k) ∙ length-drop k us
+
+  pub tail_node : (t : ℕ) → node_of tail t ≡ node_of us (k + t)
+  tail_node t = ap (λ vs. node_of vs t) (take_rest us k) ∙ get_or-drop k us t (node_at 0 0 0)
+
+  -- The first m nodes of the tail are from i to j, and done.
+  abbrev pub TailRun : List Bool → ℕ → Type 0
+  TailRun done m = (t : ℕ) → t < m → ((node_of tail t).from ≡ i) × ((node_of tail t).to ≡ j) × (get_or done (node_of tail t).symbol false ≡ true)
+
+  pub run_from_tail : (done : List Bool) (m : ℕ) → TailRun done m → Run done (k + m)
+  run_from_tail done m r t kt tm =
+      let q : k + (t - k) ≡ t = omega arith in
+      subst (λ (y : Node). (y.from ≡ i) × (y.to ≡ j) × (get_or done y.symbol false ≡ true)) (tail_node (t - k) ∙ ap (node_of us) q) (r (t - k) (omega arith))

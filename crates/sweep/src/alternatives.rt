@@ -18,8 +18,8 @@ pub fn put_all_alternatives<S: StateSource, F: Fits>(
 ) -> Result<(), Full>
     ensures { Filled by_alternative (OfSome (S.StateSource.meaning source.now).grammar (F.Fits.says spans.now) nodes.now (length nodes.now)) alternatives.old alternatives.new result }
 {
-    for k in 0..nodes.len() {
-        put_alternatives(source, spans, nodes[k], alternatives)?;
+    for node in nodes {
+        put_alternatives(source, spans, *node, alternatives)?;
     }
     Ok(())
 }

@@ -11,14 +11,7 @@ use register::Register;
 fn lower_bound(nodes: &[Node], i: u8, j: u8) -> usize
     ensures { LowerBound nodes.now i j result }
 {
-    match nodes.binary_search(&Node {
-        from: i,
-        to: j,
-        symbol: 0,
-    }) {
-        Ok(k) => k,
-        Err(k) => k,
-    }
+    nodes.partition_point(|node| node.from < i || node.from == i && node.to < j)
 }
 
 /// The symbol of some node from i to j that is not done.
@@ -31,12 +24,12 @@ pub(crate) fn open_symbol(
     ensures { MatchOption result (Climbs by_node (held nodes.now) → AllDone (held nodes.now) i j done.now) (Open (held nodes.now) i j done.now) }
 {
     let records = nodes.records();
-    for k in lower_bound(records, i, j)..records.len() {
-        let node = records[k];
+    let start = lower_bound(records, i, j);
+    for node in &records[start..] {
         if node.from != i || node.to != j {
             return None;
         }
-        if !done[node.symbol as usize] {
+        if !done[usize::from(node.symbol)] {
             return Some(node.symbol);
         }
     }
@@ -48,11 +41,7 @@ pub(crate) fn last_end(nodes: &Register<'_, Node>, i: u8, limit: u8) -> Option<u
     ensures { MatchOption result (Climbs by_node (held nodes.now) → NoneBelow (held nodes.now) i limit) (LastBelow (held nodes.now) i limit) }
 {
     let records = nodes.records();
-    let k = lower_bound(records, i, limit);
-    if k == 0 {
-        return None;
-    }
-    let node = records[k - 1];
+    let node = records[..lower_bound(records, i, limit)].last()?;
     if node.from == i && node.to < limit {
         Some(node.to)
     } else {

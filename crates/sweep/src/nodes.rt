@@ -16,6 +16,7 @@ fn none_done() -> [bool; 256]
     [false; 256]
 }
 
+// The source and the spans stay two parameters: `put_parts` asks for both, so a pair would be made only to be taken apart.
 /// Adds the parts of the nodes from i to j until there are no more.
 fn settle<S: StateSource, F: Fits>(
     source: &S,
@@ -38,7 +39,7 @@ fn settle<S: StateSource, F: Fits>(
             },
             nodes,
         )?;
-        done[symbol as usize] = true;
+        done[usize::from(symbol)] = true;
     }
     Ok(())
 }
@@ -75,8 +76,8 @@ pub fn put_all_nodes<S: StateSource, F: Fits>(
         symbol: source.right(0, 0),
     };
     let _new = nodes.insert(top)?;
-    for i in 0..last as usize + 1 {
-        sweep_from(source, spans, i as u8, nodes)?;
+    for i in 0..=last {
+        sweep_from(source, spans, i, nodes)?;
     }
     Ok(())
 }

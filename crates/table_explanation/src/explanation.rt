@@ -16,249 +16,222 @@ pub struct TableExplanation<'a> {
     pub finding: Finding,
 }
 
-/// The line on what is wrong with a header.
-fn explain_header<W: fmt::Write>(
-    f: &mut fmt::Formatter<W>,
-    fault: TableFault,
-    grammar: &Grammar,
-    sheet: &[u8],
-) -> fmt::Result {
-    let size = sheet.len();
-    let Some(header) = Header::of(sheet) else {
-        return writeln!(
-            f,
-            "The length of the sheet is {size}, too little for a header."
-        );
-    };
-    let Header {
-        length,
-        states,
-        symbols,
-        rules,
-        steps_at,
-        marks_at,
-    } = header;
-    match fault {
-        TableFault::CountRange => {
-            let wanted_symbols = grammar.terminals() + grammar.nonterminals();
-            let wanted_rules = grammar.rules();
-            writeln!(
+impl TableExplanation<'_> {
+    /// The line on what is wrong with a header.
+    fn explain_header<W: fmt::Write>(&self, f: &mut fmt::Formatter<W>) -> fmt::Result {
+        let size = self.sheet.len();
+        let Some(header) = Header::of(self.sheet) else {
+            return writeln!(
                 f,
-                "The header tells states: {states}, symbols: {symbols}, rules: {rules}; the grammar has symbols: {wanted_symbols}, rules: {wanted_rules}."
-            )
-        }
-        TableFault::Offset => {
-            let wanted = header.steps_end();
-            let end = states.saturating_mul(rules).saturating_add(wanted);
-            writeln!(
-                f,
-                "The header tells steps from byte {steps_at} on and done marks from byte {marks_at} on, and the length of the sheet is {size}; by its counts these are 12, {wanted} and {end}."
-            )
-        }
-        _ => writeln!(
-            f,
-            "The length of the sheet is {size}, and its header tells {length}."
-        ),
-    }
-}
-
-/// The line on a byte that is out of range.
-fn explain_byte<W: fmt::Write>(
-    f: &mut fmt::Formatter<W>,
-    grammar: &Grammar,
-    sheet: &[u8],
-    offset: usize,
-) -> fmt::Result {
-    let byte = byte(sheet, offset);
-    let Some(
-        Header {
-            states,
-            marks_at,
-            ..
-        },
-    ) = Header::of(sheet)
-    else {
-        return writeln!(f, "Byte {offset} is {byte}.");
-    };
-    if offset < marks_at {
-        let symbols = grammar.terminals() + grammar.nonterminals();
-        let (state, symbol) = cell(offset.saturating_sub(12), symbols);
-        let name = Name::of(grammar, symbol);
-        writeln!(
-            f,
-            "Byte {offset} is {byte}: the step of state {state} by `{name}`. The number of states is {states}."
-        )
-    } else {
-        let (state, rule) = cell(offset - marks_at, grammar.rules());
-        writeln!(
-            f,
-            "Byte {offset} is {byte}: the done mark of state {state} for rule {rule}."
-        )
-    }
-}
-
-/// The line on a step that is wrong.
-fn explain_step<W: fmt::Write>(
-    f: &mut fmt::Formatter<W>,
-    fault: TableFault,
-    grammar: &Grammar,
-    target: u8,
-    state: u8,
-    symbol: u8,
-) -> fmt::Result {
-    let name = Name::of(grammar, symbol);
-    match fault {
-        TableFault::StepWhereNone { .. } => writeln!(
-            f,
-            "State {state} steps by `{name}` to state {target}, and no step is wanted: `{name}` comes next in none of its items."
-        ),
-        TableFault::StepLacking { .. } => writeln!(
-            f,
-            "State {state} has no step by `{name}`, and one is wanted: `{name}` comes next in its items."
-        ),
-        TableFault::OtherRow { .. } => writeln!(
-            f,
-            "State {state} steps by `{name}` to state {target}, which is known with other items than those wanted."
-        ),
-        _ => writeln!(
-            f,
-            "State {state} steps by `{name}` to state {target}, which is new, while another state has the items wanted."
-        ),
-    }
-}
-
-/// The line on a done mark that is wrong.
-fn explain_mark<W: fmt::Write>(
-    f: &mut fmt::Formatter<W>,
-    grammar: &Grammar,
-    mark: u8,
-    state: u8,
-    rule: u8,
-) -> fmt::Result {
-    let text = RuleText {
-        grammar,
-        rule: usize::from(rule),
-    };
-    let wanted = if mark == 0 { 1 } else { 0 };
-    writeln!(
-        f,
-        "State {state} has the done mark {mark} for rule {rule}, `{text}`, and {wanted} is wanted."
-    )
-}
-
-/// The line on what is wrong, and where.
-fn explain<W: fmt::Write>(
-    f: &mut fmt::Formatter<W>,
-    fault: TableFault,
-    grammar: &Grammar,
-    sheet: &[u8],
-) -> fmt::Result {
-    match fault {
-        TableFault::ByteRange { offset } => explain_byte(f, grammar, sheet, offset),
-        TableFault::StepWhereNone { state, symbol }
-        | TableFault::StepLacking { state, symbol }
-        | TableFault::OtherRow { state, symbol }
-        | TableFault::KnownRow { state, symbol } => {
-            let target = step_byte(sheet, state, symbol);
-            explain_step(f, fault, grammar, target, state, symbol)
-        }
-        TableFault::MarkWrong { state, rule } => {
-            let mark = mark_byte(sheet, state, rule);
-            explain_mark(f, grammar, mark, state, rule)
-        }
-        TableFault::NeverReached { state } => writeln!(
-            f,
-            "State {state} is not reached from state 0 by any steps."
-        ),
-        TableFault::TooManyStates => writeln!(f, "The grammar has more than 255 LR(0) item sets."),
-        TableFault::RoomShort { need } => writeln!(
-            f,
-            "The room to write the sheet has fewer than {need} bytes."
-        ),
-        _ => explain_header(f, fault, grammar, sheet),
-    }
-}
-
-/// The items of a state that has a wrong step by a symbol, and the items of the state that the step wants.
-fn show_step_items<'a, W: fmt::Write>(
-    f: &mut fmt::Formatter<W>,
-    grammar: &'a Grammar,
-    row: &'a Row,
-    state: u8,
-    symbol: u8,
-) -> fmt::Result {
-    let items = RowText { grammar, row };
-    write!(f, "The items of state {state}:\n{items}")?;
-    if let Some(wanted) = row.step(grammar, usize::from(symbol)) {
-        let items = RowText {
-            grammar,
-            row: &wanted,
+                "The length of the sheet is {size}, too little for a header."
+            );
         };
-        write!(f, "The items of the state wanted:\n{items}")?;
+        let Header {
+            length,
+            states,
+            symbols,
+            rules,
+            steps_at,
+            marks_at,
+        } = header;
+        match self.finding.fault {
+            TableFault::CountRange => {
+                let grammar = self.grammar;
+                let wanted_symbols = grammar.symbols();
+                let wanted_rules = grammar.rules();
+                writeln!(
+                    f,
+                    "The header tells states: {states}, symbols: {symbols}, rules: {rules}; the grammar has symbols: {wanted_symbols}, rules: {wanted_rules}."
+                )
+            }
+            TableFault::Offset => {
+                let wanted = header.steps_end();
+                let end = header.marks_end();
+                writeln!(
+                    f,
+                    "The header tells steps from byte {steps_at} on and done marks from byte {marks_at} on, and the length of the sheet is {size}; by its counts these are 12, {wanted} and {end}."
+                )
+            }
+            _ => writeln!(
+                f,
+                "The length of the sheet is {size}, and its header tells {length}."
+            ),
+        }
     }
-    Ok(())
-}
 
-/// The items that a fault is about.
-fn show_items<'a, W: fmt::Write>(
-    f: &mut fmt::Formatter<W>,
-    fault: TableFault,
-    grammar: &'a Grammar,
-    row: &'a Row,
-) -> fmt::Result {
-    match fault {
-        TableFault::StepWhereNone { state, symbol }
-        | TableFault::StepLacking { state, symbol }
-        | TableFault::OtherRow { state, symbol }
-        | TableFault::KnownRow { state, symbol } => show_step_items(f, grammar, row, state, symbol),
-        TableFault::MarkWrong { state, .. } => {
-            let items = RowText { grammar, row };
-            write!(f, "The items of state {state}:\n{items}")
+    /// The line on a byte that is out of range.
+    fn explain_byte<W: fmt::Write>(&self, f: &mut fmt::Formatter<W>, offset: usize) -> fmt::Result {
+        let grammar = self.grammar;
+        let byte = byte(self.sheet, offset);
+        let Some(header) = Header::of(self.sheet) else {
+            return writeln!(f, "Byte {offset} is {byte}.");
+        };
+        let marks_at = usize::from(header.marks_at);
+        if offset < marks_at {
+            let states = header.states;
+            let symbols = grammar.symbols();
+            let (state, symbol) = cell(offset.saturating_sub(12), symbols);
+            let name = Name::of(grammar, symbol);
+            writeln!(
+                f,
+                "Byte {offset} is {byte}: the step of state {state} by `{name}`. The number of states is {states}."
+            )
+        } else {
+            let (state, rule) = cell(offset - marks_at, grammar.rules());
+            writeln!(
+                f,
+                "Byte {offset} is {byte}: the done mark of state {state} for rule {rule}."
+            )
         }
-        _ => Ok(()),
     }
-}
 
-/// The rule that a fault breaks.
-fn rule_of(fault: TableFault) -> &'static str {
-    match fault {
-        TableFault::WholeLength =>
-            "A header has 12 bytes, and its first number is the length of the whole sheet.",
-        TableFault::CountRange =>
-            "A table has 1 to 255 states, and as many symbols and rules as its grammar.",
-        TableFault::Offset => {
-            "The steps begin at byte 12, one for each state and symbol; the done marks follow them, one for each state and rule, and end the sheet."
+    /// The line on a step that is wrong.
+    fn explain_step<W: fmt::Write>(
+        &self,
+        f: &mut fmt::Formatter<W>,
+        state: u8,
+        symbol: u8,
+    ) -> fmt::Result {
+        let name = Name::of(self.grammar, symbol);
+        let target = step_byte(self.sheet, state, symbol);
+        match self.finding.fault {
+            TableFault::StepWhereNone { .. } => writeln!(
+                f,
+                "State {state} steps by `{name}` to state {target}, and no step is wanted: `{name}` comes next in none of its items."
+            ),
+            TableFault::StepLacking { .. } => writeln!(
+                f,
+                "State {state} has no step by `{name}`, and one is wanted: `{name}` comes next in its items."
+            ),
+            TableFault::OtherRow { .. } => writeln!(
+                f,
+                "State {state} steps by `{name}` to state {target}, which is known with other items than those wanted."
+            ),
+            _ => writeln!(
+                f,
+                "State {state} steps by `{name}` to state {target}, which is new, while another state has the items wanted."
+            ),
         }
-        TableFault::ByteRange { .. } =>
-            "A step is a state, or 255 where there is none. A done mark is 0 or 1.",
-        TableFault::StepWhereNone { .. } | TableFault::StepLacking { .. } => {
-            "A state has a step by each symbol that comes next in its items, and by no other."
+    }
+
+    /// The line on a done mark that is wrong.
+    fn explain_mark<W: fmt::Write>(
+        &self,
+        f: &mut fmt::Formatter<W>,
+        state: u8,
+        rule: u8,
+    ) -> fmt::Result {
+        let text = RuleText {
+            grammar: self.grammar,
+            rule: usize::from(rule),
+        };
+        let mark = mark_byte(self.sheet, state, rule);
+        let wanted = if mark == 0 { 1 } else { 0 };
+        writeln!(
+            f,
+            "State {state} has the done mark {mark} for rule {rule}, `{text}`, and {wanted} is wanted."
+        )
+    }
+
+    /// The line on what is wrong, and where.
+    fn explain<W: fmt::Write>(&self, f: &mut fmt::Formatter<W>) -> fmt::Result {
+        match self.finding.fault {
+            TableFault::ByteRange { offset } => self.explain_byte(f, offset),
+            TableFault::StepWhereNone { state, symbol }
+            | TableFault::StepLacking { state, symbol }
+            | TableFault::OtherRow { state, symbol }
+            | TableFault::KnownRow { state, symbol } => self.explain_step(f, state, symbol),
+            TableFault::MarkWrong { state, rule } => self.explain_mark(f, state, rule),
+            TableFault::NeverReached { state } => writeln!(
+                f,
+                "State {state} is not reached from state 0 by any steps."
+            ),
+            TableFault::TooManyStates => writeln!(
+                f,
+                "The grammar has more than 255 LR(0) item sets."
+            ),
+            TableFault::RoomShort { need } => writeln!(
+                f,
+                "The room to write the sheet has fewer than {need} bytes."
+            ),
+            _ => self.explain_header(f),
         }
-        TableFault::OtherRow { .. } => {
-            "A step by a symbol leads to the state of the items in which the symbol is passed, completed."
+    }
+
+    /// The items of the state that has a wrong step by a symbol, and the items of the state that the step wants.
+    fn show_step_items<W: fmt::Write>(
+        &self,
+        f: &mut fmt::Formatter<W>,
+        row: &Row,
+        state: u8,
+        symbol: u8,
+    ) -> fmt::Result {
+        let grammar = self.grammar;
+        let items = RowText { grammar, row };
+        write!(f, "The items of state {state}:\n{items}")?;
+        if let Some(wanted) = row.step(grammar, usize::from(symbol)) {
+            let items = RowText {
+                grammar,
+                row: &wanted,
+            };
+            write!(f, "The items of the state wanted:\n{items}")?;
         }
-        TableFault::KnownRow { .. } => "No two states have the same items.",
-        TableFault::MarkWrong { .. } => {
-            "A done mark is 1 where the state has an item with the rule wholly passed, and 0 elsewhere."
+        Ok(())
+    }
+
+    /// The items that the fault is about, which are those of a row.
+    fn show_items<W: fmt::Write>(&self, f: &mut fmt::Formatter<W>, row: &Row) -> fmt::Result {
+        match self.finding.fault {
+            TableFault::StepWhereNone { state, symbol }
+            | TableFault::StepLacking { state, symbol }
+            | TableFault::OtherRow { state, symbol }
+            | TableFault::KnownRow { state, symbol } => self.show_step_items(f, row, state, symbol),
+            TableFault::MarkWrong { state, .. } => {
+                let items = RowText {
+                    grammar: self.grammar,
+                    row,
+                };
+                write!(f, "The items of state {state}:\n{items}")
+            }
+            _ => Ok(()),
         }
-        TableFault::NeverReached { .. } => "Every state is reached from state 0 by steps.",
-        TableFault::TooManyStates => "A table has 1 to 255 states, one for each item set.",
-        TableFault::RoomShort { .. } => "A sheet is written whole or not at all.",
+    }
+
+    /// The rule that the fault breaks.
+    fn rule(&self) -> &'static str {
+        match self.finding.fault {
+            TableFault::WholeLength =>
+                "A header has 12 bytes, and its first number is the length of the whole sheet.",
+            TableFault::CountRange =>
+                "A table has 1 to 255 states, and as many symbols and rules as its grammar.",
+            TableFault::Offset => {
+                "The steps begin at byte 12, one for each state and symbol; the done marks follow them, one for each state and rule, and end the sheet."
+            }
+            TableFault::ByteRange { .. } =>
+                "A step is a state, or 255 where there is none. A done mark is 0 or 1.",
+            TableFault::StepWhereNone { .. } | TableFault::StepLacking { .. } => {
+                "A state has a step by each symbol that comes next in its items, and by no other."
+            }
+            TableFault::OtherRow { .. } => {
+                "A step by a symbol leads to the state of the items in which the symbol is passed, completed."
+            }
+            TableFault::KnownRow { .. } => "No two states have the same items.",
+            TableFault::MarkWrong { .. } => {
+                "A done mark is 1 where the state has an item with the rule wholly passed, and 0 elsewhere."
+            }
+            TableFault::NeverReached { .. } => "Every state is reached from state 0 by steps.",
+            TableFault::TooManyStates => "A table has 1 to 255 states, one for each item set.",
+            TableFault::RoomShort { .. } => "A sheet is written whole or not at all.",
+        }
     }
 }
 
 impl fmt::Display for TableExplanation<'_> {
     fn fmt<W: fmt::Write>(&self, f: &mut fmt::Formatter<W>) -> fmt::Result {
-        let TableExplanation {
-            grammar,
-            sheet,
-            finding,
-        } = *self;
-        let Finding { fault, row } = finding;
-        explain(f, fault, grammar, sheet)?;
-        if let Some(row) = row {
-            show_items(f, fault, grammar, &row)?;
+        self.explain(f)?;
+        if let Some(row) = &self.finding.row {
+            self.show_items(f, row)?;
         }
-        writeln!(f, "{}", rule_of(fault))
+        writeln!(f, "{}", self.rule())
     }
 }

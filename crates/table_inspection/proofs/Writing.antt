@@ -1,8 +1,6 @@
--- What is written of built states: it fills its room, and is not refused.
-use Rattle.std.proofs.Common.{◌≡◌, ℕ, ◌≤◌, List, ◌++◌, length, take, drop, sym, ap, ◌∙◌, subst, arith}
-use Rattle.std.proofs.lemmas.List.{take-append-le}
+-- What is written of built states is not refused.
+use Rattle.std.proofs.Common.{◌≡◌, ℕ, List, Ok, Err, Result, MatchResult, IsOk, sym, refl, ap, ◌∙◌, subst, arith}
 use Rattle.grammar.specs.Meaning.{meaning}
-use Rattle.grammar.specs.Writing.{Writes}
 use Rattle.grammar.specs.declared.grammar.Grammar.{Grammar}
 use Rattle.states.specs.Refusals.{outcome}
 use Rattle.states.specs.declared.fault.TableFault.{TableFault}
@@ -15,12 +13,10 @@ use Rattle.built_states.specs.Built.{built_table}
 use Rattle.built_states.specs.Writing.{sheet}
 use Rattle.built_states.specs.declared.built.BuiltStates.{BuiltStates}
 
--- A room as long as the sheet is the sheet.
-pub fills : {xs old new : List ℕ} {n : ℕ} (items : List ℕ) (len : ℕ) → Writes xs old new n → len ≡ length xs → len ≤ length new
-    → take len (new ++ drop (length new) items) ≡ xs
-fills {xs} {old} {new} {n} items len w e l =
-    let same : len ≡ n = e ∙ sym w.need in
-    take-append-le len new (drop (length new) items) l ∙ ap (λ k. take k new) same ∙ w.front
+-- A result that is no error is unwrapped.
+pub unwraps : {T E : Type 0} (P : T → Type 0) (Q : E → Type 0) (r : Result T E) → MatchResult r P Q → ((e : E) → Q e → ⊥) → IsOk r
+unwraps P Q (Ok x) h n = refl
+unwraps P Q (Err e) h n = absurd (n e h)
 
 -- The sheet of states that are built for a grammar is that of their table.
 pub sheet_is : (g : Grammar) (states : BuiltStates) → states.grammar ≡ g

@@ -4,13 +4,13 @@
 --   listing s b rows how     the table that the bytes b say, with these rows, and that it passes
 --   TableReport s b text     the text is a report of the bytes b as a table for the grammar of the sheet s
 --   FullReport b c text      the text is a report of the bytes b as a grammar sheet, and of the bytes c as a table for that grammar
-use Rattle.std.specs.Prelude.{◌≡◌, ℕ, ◌≢◌, List, ◌++◌, length, codes, decimal}
+use Rattle.std.specs.Prelude.{◌≡◌, ℕ, ◌≢◌, List, ◌++◌, Option, length, codes, decimal}
 use Rattle.parsing.specs.Grammar.{Grammar}
 use Rattle.grammar_format.specs.Sheets.{Sheet, sheet_bytes}
 use Rattle.grammar_format.specs.Keeping.{Keeps}
 use Rattle.grammar.specs.Refusals.{Refused as RefusedGrammar}
 use Rattle.grammar.specs.declared.fault.GrammarFault.{GrammarFault}
-use Rattle.inspection.specs.Lines.{refusal_line}
+use Rattle.grammar.specs.Lines.{refusal_line}
 use Rattle.inspection.specs.Reports.{Report}
 use Rattle.rows.specs.declared.row.Row.{Row}
 use Rattle.states.specs.Refusals.{refusal}
@@ -45,7 +45,7 @@ pub data TableReport (s : Sheet) (b text : List ℕ) : Type 0 where
   -- Others are refused in the first line, by the fault that the check comes to first, and explained in some words.
   refused : (f : TableFault) (words : List ℕ) → length b ≢ 0 → Refused s.grammar b f → text ≡ refusal_text f words → TableReport s b text
   -- Without bytes the states are built. What is written of them passes, and is listed.
-  built : (n : ℕ) (ws : List Row) (steps : List ℕ) (rows : ℕ → Items) → length b ≡ 0 → Built s.grammar n ws steps
+  built : (n : ℕ) (ws : List Row) (steps : List (List (Option ℕ))) (rows : ℕ → Items) → length b ≡ 0 → Built s.grammar n ws steps
       → Passes s.grammar (table_bytes s.grammar (built_table s.grammar n ws steps)) rows
       → text ≡ listing s (table_bytes s.grammar (built_table s.grammar n ws steps)) rows (codes "built and written") → TableReport s b text
   -- A grammar with more than 255 item sets has no table.

@@ -10,42 +10,25 @@ ghost use Rattle.table_inspection.specs.Reports.{passing_line, refusal_text, Tab
 
 use built_states::BuiltStates;
 use grammar::Grammar;
-use inspection::{RefusalLine, report};
+use inspection::report;
 use std::alloc::{AllocError, Global};
 use table_explanation::TableExplanation;
 use table_text::TableText;
 use tables::{Finding, Table};
 
 /// The report of a table that passed: what it says, how it came about, and how many bytes its sheet has.
-fn listed<'a>(
-    heap: Global,
-    grammar: &'a Grammar,
-    table: &'a Table,
-    how: &str,
-    size: usize,
-) -> Result<String, AllocError>
-    ensures { IfOk result (λ text. string_bytes text ≡ text_of_table (sheet_of grammar.now) (source table.now) ++ passing_line how.now size) }
+fn listed(heap: Global, listing: TableText, how: &str, size: usize) -> Result<String, AllocError>
+    ensures { IfOk result (λ text. string_bytes text ≡ text_of_table (sheet_of listing.entry.grammar.now) (source listing.entry.table.now) ++ passing_line how.now size) }
 {
-    let listing = TableText { grammar, table };
     format!(in heap; "{listing}{how}: {size} bytes, they pass the check\n")
 }
 
 /// The report of a fault.
-fn refused<'a>(
-    heap: Global,
-    grammar: &'a Grammar,
-    sheet: &'a [u8],
-    finding: Finding,
-) -> Result<String, AllocError>
-    ensures { IfOk result (λ text. (words : List ℕ) × (string_bytes text ≡ refusal_text finding.fault words)) }
+fn refused(heap: Global, explanation: TableExplanation) -> Result<String, AllocError>
+    ensures { IfOk result (λ text. (words : List ℕ) × (string_bytes text ≡ refusal_text explanation.entry.finding.fault words)) }
 {
-    let line = RefusalLine(finding.fault.refusal());
-    let words = TableExplanation {
-        grammar,
-        sheet,
-        finding,
-    }
-    .to_string(heap)?;
+    let line = explanation.finding.fault.refusal();
+    let words = explanation.to_string(heap)?;
     format!(in heap; "{line}\n{words}")
 }
 
@@ -54,10 +37,8 @@ fn written(heap: Global, states: &BuiltStates) -> Result<Vec<u8>, AllocError>
     ensures { IfOk result (λ v. (v.items ≡ built_sheet states.now) × Checked (meaning states.now.grammar) (built_sheet states.now) passes) }
 {
     let mut room = vec![in heap; 0u8; states.sheet_len()]?;
-    match states.write(room.as_mut_slice()) {
-        Ok(_) => Ok(room),
-        Err(_) => unreachable(),
-    }
+    states.write(room.as_mut_slice()).unwrap();
+    Ok(room)
 }
 
 /// The report of the states that are built from a grammar.
@@ -66,13 +47,25 @@ fn built(heap: Global, grammar: &Grammar) -> Result<String, AllocError>
 {
     let states = match BuiltStates::build(grammar) {
         Ok(states) => states,
-        Err(fault) => return refused(heap, grammar, &[], Finding { fault, row: None }),
+        Err(fault) => {
+            let finding = Finding { fault, row: None };
+            return refused(
+                heap,
+                TableExplanation {
+                    grammar,
+                    sheet: &[],
+                    finding,
+                },
+            );
+        }
     };
     let sheet = written(heap, &states)?;
-    match Table::check(grammar, sheet.as_slice()) {
-        Ok(table) => listed(heap, grammar, &table, "built and written", sheet.len()),
-        Err(_) => unreachable(),
-    }
+    let table = Table::check(grammar, sheet.as_slice()).unwrap();
+    let listing = TableText {
+        grammar,
+        table: &table,
+    };
+    listed(heap, listing, "built and written", sheet.len())
 }
 
 /// What is told of a table sheet for a grammar. Without bytes it is told of the states that are built from the grammar.
@@ -83,8 +76,21 @@ pub fn table_report(heap: Global, grammar: &Grammar, sheet: &[u8]) -> Result<Str
         return built(heap, grammar);
     }
     match Table::examine(grammar, sheet) {
-        Ok(table) => listed(heap, grammar, &table, "supplied", sheet.len()),
-        Err(finding) => refused(heap, grammar, sheet, finding),
+        Ok(table) => {
+            let listing = TableText {
+                grammar,
+                table: &table,
+            };
+            listed(heap, listing, "supplied", sheet.len())
+        }
+        Err(finding) => refused(
+            heap,
+            TableExplanation {
+                grammar,
+                sheet,
+                finding,
+            },
+        ),
     }
 }
 

@@ -1,6 +1,5 @@
 -- Items and rows in readable notation.
 --   dot_mark            the mark that stands for the dot of an item, behind a blank: the character `•`, which no spelling has
---   right_piece s r k   the right symbol k of the rule r, behind a blank
 --   mark_place s r d    how many right symbols of the rule r stand before the mark: d, if it has so many
 --   item_text s r d     the item (r, d): the rule r of the sheet s, with the mark behind its first d right symbols, or behind all
 --   item_line s w r d   a line for the item (r, d), if the row w has it
@@ -9,17 +8,14 @@
 use Rattle.std.specs.Prelude.{ℕ, ◌+◌, ◌-◌, min, cond, List, [], ◌∷◌, ◌++◌, codes}
 use Rattle.parsing.specs.Grammar.{rule_count}
 use Rattle.grammar_format.specs.Sheets.{Sheet}
-use Rattle.grammar.specs.Questions.{left_side, right_length, right_symbol}
+use Rattle.grammar.specs.Questions.{left_side, right_length}
 use Rattle.table_format.specs.ItemSets.{Items}
 use Rattle.inspection.specs.Names.{symbol_name}
-use Rattle.inspection.specs.Rules.{behind_blank}
-use Rattle.table_text.specs.Pieces.{each}
+use Rattle.inspection.specs.Rules.{right_piece}
+use Rattle.inspection.specs.Pieces.{each}
 
 abbrev pub dot_mark : List ℕ
 dot_mark = codes " " ++ (226 ∷ (128 ∷ (162 ∷ [])))
-
-abbrev pub right_piece : Sheet → ℕ → ℕ → List ℕ
-right_piece s r k = behind_blank s (right_symbol s.grammar r k)
 
 abbrev pub mark_place : Sheet → ℕ → ℕ → ℕ
 mark_place s r d = min d (right_length s.grammar r)

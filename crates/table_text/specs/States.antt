@@ -11,7 +11,7 @@ use Rattle.grammar_format.specs.Sheets.{Sheet}
 use Rattle.table_format.specs.ItemSets.{symbols}
 use Rattle.inspection.specs.Names.{symbol_name}
 use Rattle.table_text.specs.Items.{row_text}
-use Rattle.table_text.specs.Pieces.{each}
+use Rattle.inspection.specs.Pieces.{each}
 
 abbrev pub step_line : Sheet → Option ℕ → ℕ → List ℕ
 step_line s None X = []

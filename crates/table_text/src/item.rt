@@ -1,11 +1,10 @@
 //! Items in readable notation.
-ghost use Rattle.std.specs.Prelude.{◌-◌, Some};
+ghost use Rattle.std.specs.Prelude.{Some};
 ghost use Rattle.grammar.specs.Meaning.{sheet};
-ghost use Rattle.table_text.specs.Items.{right_piece, item_text};
-ghost use Rattle.table_text.specs.Pieces.{each};
+ghost use Rattle.table_text.specs.Items.{item_text};
 
 use grammar::Grammar;
-use inspection::Name;
+use inspection::{Name, RightSymbols};
 use std::fmt;
 
 /// An item: a rule with a mark where its dot stands, as `start -> start • and start`. A dot past the last symbol is shown behind it, and a
@@ -17,27 +16,6 @@ pub struct ItemText<'a> {
     pub dot: usize,
 }
 
-/// The right symbols of a rule from one place on and up to another, each behind a blank.
-#[derive(Clone, Copy)]
-struct RightPart<'a> {
-    grammar: &'a Grammar,
-    rule: usize,
-    from: usize,
-    to: usize,
-}
-
-impl fmt::Display for RightPart<'_> {
-    ghost output = { λ x. Some (each (right_piece (sheet x.grammar.now) x.rule) x.from (x.to - x.from)) };
-
-    fn fmt<W: fmt::Write>(&self, f: &mut fmt::Formatter<W>) -> fmt::Result {
-        for place in self.from..self.to {
-            let symbol = Name::of(self.grammar, self.grammar.right(self.rule, place));
-            write!(f, " {symbol}")?;
-        }
-        Ok(())
-    }
-}
-
 impl fmt::Display for ItemText<'_> {
     ghost output = { λ x. Some (item_text (sheet x.grammar.now) x.rule x.dot) };
 
@@ -46,13 +24,13 @@ impl fmt::Display for ItemText<'_> {
         let left = Name::of(grammar, grammar.left(rule));
         let length = usize::from(grammar.length(rule));
         let mark = dot.min(length);
-        let passed = RightPart {
+        let passed = RightSymbols {
             grammar,
             rule,
             from: 0,
             to: mark,
         };
-        let coming = RightPart {
+        let coming = RightSymbols {
             grammar,
             rule,
             from: mark,

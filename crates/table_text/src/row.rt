@@ -39,17 +39,18 @@ impl fmt::Display for ItemLine<'_> {
 /// The items of a row that are of one rule, a line for each.
 #[derive(Clone, Copy)]
 struct RuleItems<'a> {
-    grammar: &'a Grammar,
-    row: &'a Row,
+    text: RowText<'a>,
     rule: usize,
 }
 
 impl fmt::Display for RuleItems<'_> {
-    ghost output = { λ x. Some (rule_items (sheet x.grammar.now) (items x.row.now) x.rule) };
+    ghost output = { λ x. Some (rule_items (sheet x.text.grammar.now) (items x.text.row.now) x.rule) };
 
     fn fmt<W: fmt::Write>(&self, f: &mut fmt::Formatter<W>) -> fmt::Result {
-        let RuleItems { grammar, row, rule } = *self;
-        for dot in 0..usize::from(grammar.length(rule)) + 1 {
+        let RuleItems { text, rule } = *self;
+        let RowText { grammar, row } = text;
+        // A loop of its own, as each list here has: a trait of numbered pieces would want a struct and an impl for each.
+        for dot in 0..=usize::from(grammar.length(rule)) {
             let item = ItemText { grammar, rule, dot };
             write!(f, "{}", ItemLine { row, item })?;
         }
@@ -61,9 +62,10 @@ impl fmt::Display for RowText<'_> {
     ghost output = { λ x. Some (row_text (sheet x.grammar.now) (items x.row.now)) };
 
     fn fmt<W: fmt::Write>(&self, f: &mut fmt::Formatter<W>) -> fmt::Result {
-        let RowText { grammar, row } = *self;
-        for rule in 0..usize::from(grammar.rules()) {
-            write!(f, "{}", RuleItems { grammar, row, rule })?;
+        let text = *self;
+        // A loop of its own, as each list here has: a trait of numbered pieces would want a struct and an impl for each.
+        for rule in 0..usize::from(text.grammar.rules()) {
+            write!(f, "{}", RuleItems { text, rule })?;
         }
         Ok(())
     }

@@ -31,11 +31,7 @@ impl fmt::Display for StateText<'_> {
         match table.row(state) {
             Some(row) => {
                 let items = RowText { grammar, row: &row };
-                let steps = StepLines {
-                    grammar,
-                    table,
-                    state,
-                };
+                let steps = StepLines(*self);
                 write!(f, "state {state}\n{items}{steps}")
             }
             None => Ok(()),
@@ -45,16 +41,14 @@ impl fmt::Display for StateText<'_> {
 
 /// The states of a table.
 #[derive(Clone, Copy)]
-struct StateTexts<'a> {
-    grammar: &'a Grammar,
-    table: &'a Table,
-}
+struct StateTexts<'a>(TableText<'a>);
 
 impl fmt::Display for StateTexts<'_> {
-    ghost output = { λ x. Some (state_texts (sheet x.grammar.now) (source x.table.now)) };
+    ghost output = { λ x. Some (state_texts (sheet x.0.grammar.now) (source x.0.table.now)) };
 
     fn fmt<W: fmt::Write>(&self, f: &mut fmt::Formatter<W>) -> fmt::Result {
-        let StateTexts { grammar, table } = *self;
+        let TableText { grammar, table } = self.0;
+        // A loop of its own, as each list here has: a trait of numbered pieces would want a struct and an impl for each.
         for state in 0..table.states() {
             write!(
                 f,
@@ -81,9 +75,8 @@ impl fmt::Display for TableText<'_> {
     ghost output = { λ x. Some (text_of_table (sheet x.grammar.now) (source x.table.now)) };
 
     fn fmt<W: fmt::Write>(&self, f: &mut fmt::Formatter<W>) -> fmt::Result {
-        let TableText { grammar, table } = *self;
-        let count = table.states();
-        let states = StateTexts { grammar, table };
+        let count = self.table.states();
+        let states = StateTexts(*self);
         write!(f, "states: {count}\n{states}")
     }
 }

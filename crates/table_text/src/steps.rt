@@ -4,11 +4,11 @@ ghost use Rattle.grammar.specs.Meaning.{sheet};
 ghost use Rattle.tables.specs.Meaning.{source};
 ghost use Rattle.table_text.specs.States.{step_line, step_lines};
 
+use crate::state::StateText;
 use grammar::Grammar;
 use inspection::Name;
 use states::StateSource;
 use std::fmt;
-use tables::Table;
 
 /// A step, as `  by tea to 3`; nothing where there is none.
 #[derive(Clone, Copy)]
@@ -34,19 +34,20 @@ impl fmt::Display for StepLine<'_> {
 
 /// The steps of a state, a line for each.
 #[derive(Clone, Copy)]
-pub(crate) struct StepLines<'a> {
-    pub(crate) grammar: &'a Grammar,
-    pub(crate) table: &'a Table,
-    pub(crate) state: u8,
-}
+pub(crate) struct StepLines<'a>(pub(crate) StateText<'a>);
 
 impl fmt::Display for StepLines<'_> {
-    ghost output = { λ x. Some (step_lines (sheet x.grammar.now) (source x.table.now) x.state) };
+    ghost output = { λ x. Some (step_lines (sheet x.0.grammar.now) (source x.0.table.now) x.0.state) };
 
     fn fmt<W: fmt::Write>(&self, f: &mut fmt::Formatter<W>) -> fmt::Result {
-        let grammar = self.grammar;
-        for symbol in 0..grammar.terminals() + grammar.nonterminals() {
-            let target = self.table.next(self.state, symbol);
+        let StateText {
+            grammar,
+            table,
+            state,
+        } = self.0;
+        // A loop of its own, as each list here has: a trait of numbered pieces would want a struct and an impl for each.
+        for symbol in 0..grammar.symbols() {
+            let target = table.next(state, symbol);
             write!(
                 f,
                 "{}",

@@ -1,14 +1,14 @@
 -- What the check answers.
+use Rattle.std.proofs.lemmas.Nat.{mul-le}
 use Rattle.std.specs.Prelude.{◌≡◌, ℕ, ◌<◌, ◌≤◌, List, [], ◌∷◌, ◌++◌, length, None, Option, ◌≢◌}
 use Rattle.std.proofs.Common.{sym, ap, subst, arith}
-use Rattle.std.proofs.lemmas.Nat.{mul-le}
 use Rattle.std.proofs.lemmas.List.{length_push}
 use Rattle.parsing.specs.Grammar.{Grammar, rule_count}
 use Rattle.states.specs.Refusals.{outcome}
 use Rattle.states.specs.declared.fault.TableFault.{TableFault}
 use Rattle.states.specs.declared.fault.TableFault.TheVariants.{NeverReached}
 use Rattle.rows.specs.declared.row.Row.{Row}
-use Rattle.table_format.specs.ItemSets.{Items, symbols, RightSides, FirstRow, NoStep, StepTo}
+use Rattle.table_format.specs.ItemSets.{Items, RightSides, FirstRow, NoStep, StepTo, symbols}
 use Rattle.table_format.specs.Tables.{Table}
 use Rattle.table_format.specs.Walks.{Known, state_at, Knows, Walked, begin, passes, refuses, all_right, never_reached}
 use Rattle.table_format.specs.Sheets.{table_of, states_told, symbols_told, rules_told}

@@ -1,11 +1,11 @@
 -- The form: what has passed leaves no row that applies.
-use Rattle.std.proofs.Common.{◌≡◌, ℕ, ◌+◌, ◌*◌, ◌<◌, ◌≤◌, List, length, get_or, inl, inr, arith}
+use Rattle.std.proofs.Common.{◌≡◌, ℕ, ◌+◌, ◌-◌, ◌*◌, ◌<◌, ◌≤◌, ◌≢◌, List, length, get_or, sym, ap, ◌∙◌, inl, inr, arith}
 use Rattle.parsing.specs.Grammar.{Grammar}
 use Rattle.table_format.specs.Sheets.{states_told, symbols_told, rules_told, marks_at, ends_at}
 use Rattle.table_format.specs.Breaches.{FormBreach, CleanTo, Clean, step_byte, mark_byte}
 use Rattle.table_format.proofs.Cleaning.{clean_start, clean_row, clean_end, clean_form, row_20, row_21, row_22, row_23}
 use Rattle.tables.specs.declared.header.Header.{Header}
-use Rattle.tables.specs.Heads.{Long, Counted, Told, Laid, Headed, Formed, Allowed, Barred}
+use Rattle.tables.specs.Heads.{Long, Counted, Told, Laid, Headed, Formed}
 use Rattle.tables.specs.Faults.{Ranging}
 
 pub clean_long : (g : Grammar) (b : List ℕ) → Long b → Clean g b 21
@@ -28,28 +28,68 @@ pub ends_told : {b : List ℕ} {h : Header} → Told b h
     → 12 + h.states * h.symbols + h.states * h.rules ≡ ends_at (states_told b) (symbols_told b) (rules_told b)
 ends_told t = rw (t.states_are, t.symbols_are, t.rules_are)
 
-pub times : {a b c d : ℕ} → a ≡ b → c ≡ d → a * c ≡ b * d
-times e f = rw (e, f)
-
--- What is clean up to a place is clean up to an earlier one.
-pub clean_less : {g : Grammar} {b : List ℕ} {n p q : ℕ} → p ≤ q → CleanTo g b n q → CleanTo g b n p
-clean_less h c m k (inl x) e = c m k (inl x) e
-clean_less h c m k (inr x) e = c m k (inr (x.0, omega (arith, x.1))) e
-
 pub laid_headed : {g : Grammar} {b : List ℕ} {h : Header} → Headed g b h → Laid b h
 laid_headed d = record { told = d.told; counted = d.placed.counted }
 
--- A byte that may stand at its offset is no breach, and one that may not is.
-module _ {g : Grammar} {b : List ℕ} {h : Header} (l : Laid b h) (p : ℕ) where
-  pub allowed_fine : Allowed h p (get_or b p 0) → FormBreach g b 23 p → ⊥
-  allowed_fine a =
-      row_23 p
-      (λ i k n. omega (arith, a.0 (omega (arith, marks_told l.told)) n, l.told.states_are))
-      (λ i k. a.1 (omega (arith, marks_told l.told)))
+-- A sheet in parts: the step bytes xs, and the mark bytes ys from the offset m on.
+pub record Parts (b : List ℕ) (h : Header) (xs ys : List ℕ) (m : ℕ) : Type 0 where
+  pub at : m ≡ 12 + h.states * h.symbols
+  pub steps_long : length xs + 12 ≡ m
+  pub marks_long : length ys + m ≡ length b
+  pub step : (k : ℕ) → k < length xs → get_or xs k 0 ≡ get_or b (12 + k) 0
+  pub mark : (k : ℕ) → get_or ys k 0 ≡ get_or b (m + k) 0
 
-  pub barred_breach : 12 ≤ p → p < length b → Barred h p (get_or b p 0) → FormBreach g b 23 p
-  barred_breach i k (inl (m, n, x)) = step_byte i (omega (arith, marks_told l.told)) n (omega (arith, x, l.told.states_are))
-  barred_breach i k (inr (m, x)) = mark_byte (omega (arith, m, marks_told l.told)) (omega (arith, l.counted)) x
+-- They are so where the sheet is cut at m, and its front, f, at 12.
+pub parts : {b : List ℕ} {h : Header} (f : List ℕ) {xs ys : List ℕ} {m : ℕ} → m ≡ 12 + h.states * h.symbols → length f ≡ m → length xs + 12 ≡ length f
+    → length ys + m ≡ length b → ((k d : ℕ) → k < m → get_or f k d ≡ get_or b k d) → ((k d : ℕ) → get_or xs k d ≡ get_or f (12 + k) d)
+    → ((k d : ℕ) → get_or ys k d ≡ get_or b (m + k) d) → Parts b h xs ys m
+parts f e l n o p q r = record {
+  at = e;
+  steps_long = omega arith;
+  marks_long = o;
+  step = λ k i. q k 0 ∙ p (12 + k) 0 (omega arith);
+  mark = λ k. r k 0;
+}
+
+module _ {b : List ℕ} {h : Header} {xs ys : List ℕ} {m : ℕ} (s : Parts b h xs ys m) where
+  step_at : (p : ℕ) → 12 ≤ p → p < m → (p - 12 < length xs) × (get_or xs (p - 12) 0 ≡ get_or b p 0)
+  step_at p i j =
+      let k : p - 12 < length xs = omega (arith, s.steps_long) in
+      let e : 12 + (p - 12) ≡ p = omega arith in
+      (k, s.step (p - 12) k ∙ ap (λ q. get_or b q 0) e)
+
+  mark_at : (p : ℕ) → m ≤ p → get_or ys (p - m) 0 ≡ get_or b p 0
+  mark_at p i = let e : m + (p - m) ≡ p = omega arith in s.mark (p - m) ∙ ap (λ q. get_or b q 0) e
+
+module _ {g : Grammar} {b : List ℕ} {h : Header} (l : Laid b h) {xs ys : List ℕ} {m : ℕ} (s : Parts b h xs ys m) where
+  -- Bytes that may stand where they stand, up to the place p.
+  pub clean_bytes : (p : ℕ) → p ≤ length b → Clean g b 23
+      → ((k : ℕ) → k < length xs → 12 + k < p → get_or xs k 0 ≢ 255 → get_or xs k 0 < h.states)
+      → ((k : ℕ) → k < length ys → m + k < p → get_or ys k 0 ≤ 1) → CleanTo g b 23 p
+  clean_bytes p i k f t n q (inl x) e = k n q (inl x) e
+  clean_bytes p i k f t n q (inr (z, x)) e =
+      row_23 q
+      (λ j o u.
+      let (v, w) = step_at s q j (omega (arith, s.at, marks_told l.told)) in
+      let y = f (q - 12) v (omega arith) (λ a. u (sym w ∙ a)) in
+      omega (arith, w, l.told.states_are))
+      (λ j o.
+      let v : m ≤ q = omega (arith, s.at, marks_told l.told) in
+      let w = mark_at s q v in
+      let y = t (q - m) (omega (arith, s.marks_long)) (omega arith) in
+      omega arith)
+      (rw z at e)
+
+  -- One that may not is a breach.
+  pub step_breach : (j : ℕ) → j < length xs → get_or xs j 0 ≢ 255 → h.states ≤ get_or xs j 0 → FormBreach g b 23 (12 + j)
+  step_breach j i n x =
+      let w = s.step j i in
+      step_byte (omega arith) (omega (arith, s.at, s.steps_long, marks_told l.told)) (λ a. n (w ∙ a)) (omega (arith, w, l.told.states_are))
+
+  pub mark_breach : (j : ℕ) → j < length ys → 1 < get_or ys j 0 → FormBreach g b 23 (m + j)
+  mark_breach j i x =
+      let w = s.mark j in
+      mark_byte (omega (arith, s.at, marks_told l.told)) (omega (arith, s.marks_long, l.counted)) (omega (arith, w))
 
 pub formed : {g : Grammar} {b : List ℕ} {h : Header} → Headed g b h → Ranging b (length b) → Formed g b h
 formed {g} d r = record { form = clean_form (clean_end d.placed.counted (r g (clean_placed d))); told = d.told }

@@ -1,18 +1,18 @@
 -- What the questions on a table answer.
-use Rattle.std.specs.Prelude.{◌≡◌, ℕ, ◌<◌, ◌≤◌, false, ◌&&◌, ◌≢◌, List, Some, None, ◌==◌, nat_eq, nat_lt}
+use Rattle.tables.specs.Heads.{Laid}
+use Rattle.std.specs.Prelude.{◌≡◌, ℕ, ◌<◌, ◌≤◌, false, ◌&&◌, ◌≢◌, Some, None, ◌==◌, nat_eq, nat_lt, List}
 use Rattle.std.proofs.Math.Path.{sym, ap}
-use Rattle.std.proofs.Common.{subst, ◌∙◌, inl, inr, arith}
-use Rattle.std.proofs.lemmas.Bool.{lt-ltb, le-ltb, and_from, and_right}
+use Rattle.std.proofs.Common.{◌∙◌, inl, inr, arith, subst}
+use Rattle.std.proofs.lemmas.Bool.{lt-ltb, and_from, le-ltb, and_right}
 use Rattle.parsing.specs.Grammar.{rule_count}
 use Rattle.grammar.specs.Meaning.{meaning}
 use Rattle.table_format.specs.ItemSets.{symbols}
 use Rattle.table_format.specs.Tables.{source_of, answered}
 use Rattle.table_format.specs.Sheets.{table_of}
 use Rattle.tables.specs.declared.table.Table.{Table}
-use Rattle.tables.specs.Heads.{Laid}
 use Rattle.tables.specs.Meaning.{grammar_of, bytes, source}
 use Rattle.tables.specs.Held.{held, sourced}
-use Rattle.tables.proofs.Answering.{laid, states_are}
+use Rattle.tables.proofs.Answering.{states_are, laid}
 
 module _ (t : Table) where
   pub held_laid : (xs : List ℕ) → xs ≡ bytes t → Laid xs t.header

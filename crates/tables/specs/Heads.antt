@@ -6,8 +6,7 @@
 --   Laid b h          that, and the bytes are as long as it counts
 --   Headed g b h      all of these
 --   Formed g b h      the bytes have the form of a table sheet for the grammar g, laid out by h
---   Allowed h p x     the byte x may stand at the offset p behind the header; Barred, it may not
-use Rattle.std.specs.Prelude.{◌≡◌, ℕ, ◌<◌, ◌≤◌, ◌≢◌, ◌⊎◌, List, length}
+use Rattle.std.specs.Prelude.{◌≡◌, ℕ, ◌≤◌, List, length}
 use Rattle.parsing.specs.Grammar.{Grammar, rule_count}
 use Rattle.grammar_format.specs.Fields.{number}
 use Rattle.table_format.specs.ItemSets.{symbols}
@@ -47,13 +46,3 @@ pub record Headed (g : Grammar) (b : List ℕ) (h : Header) : Type 0 where
 pub record Formed (g : Grammar) (b : List ℕ) (h : Header) : Type 0 where
   pub form : Form g b
   pub told : Told b h
-
-abbrev pub Allowed : Header → ℕ → ℕ → Type 0
-Allowed h p x =
-    (p < marks_at h.states h.symbols → x ≢ 255 → x < h.states)
-    × (marks_at h.states h.symbols ≤ p → x ≤ 1)
-
-abbrev pub Barred : Header → ℕ → ℕ → Type 0
-Barred h p x =
-    ((p < marks_at h.states h.symbols) × (x ≢ 255) × (h.states ≤ x))
-    ⊎ ((marks_at h.states h.symbols ≤ p) × (1 < x))

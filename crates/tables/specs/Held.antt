@@ -1,26 +1,23 @@
 -- What every table holds while it exists.
-use Rattle.std.specs.Prelude.{◌≡◌, ℕ, ◌<◌, ◌≤◌, false, ◌&&◌, ◌≢◌, List, Some, None, ◌==◌, nat_eq, nat_lt}
-use Rattle.std.proofs.Math.Path.{sym, ap}
-use Rattle.std.proofs.Common.{subst, ◌∙◌, inl, inr, arith}
+use Rattle.std.specs.Prelude.{ℕ, ◌≤◌, List}
+use Rattle.std.proofs.Common.{arith}
 use Rattle.std.proofs.Math.Logic.{∥∥₁_elim}
 use Rattle.std.proofs.Math.Bridge.{le_prop}
 use Rattle.std.proofs.Math.Nat.{ℕ_set}
-use Rattle.std.proofs.lemmas.Bool.{lt-ltb, le-ltb, and_from, and_right}
-use Rattle.parsing.specs.Grammar.{Grammar, rule_count}
+use Rattle.parsing.specs.Grammar.{Grammar}
 use Rattle.grammar.specs.Meaning.{meaning}
 use Rattle.grammar.proofs.Held.{held as grammar_held}
 use Rattle.rows.specs.declared.row.Row.{Row}
 use Rattle.rows.proofs.Grammars.{right_sides, well_formed}
 use Rattle.states.specs.Sources.{Sourced}
-use Rattle.table_format.specs.ItemSets.{symbols}
-use Rattle.table_format.specs.Tables.{source_of, answered}
+use Rattle.table_format.specs.Tables.{source_of}
 use Rattle.table_format.specs.Sheets.{table_of, Form}
 use Rattle.table_format.proofs.Props.{matches_prop}
 use Rattle.table_format.proofs.Sources.{lawful, bounded}
 use Rattle.table_format.proofs.Sheets.{states_of}
 use Rattle.tables.specs.declared.header.Header.{Header}
 use Rattle.tables.specs.declared.table.Table.{Table}
-use Rattle.tables.specs.Heads.{Told, Laid}
+use Rattle.tables.specs.Heads.{Told}
 use Rattle.tables.specs.Lists.{row_in}
 use Rattle.tables.specs.Passing.{Passed}
 use Rattle.tables.specs.Meaning.{grammar_of, bytes, rows_of, source}

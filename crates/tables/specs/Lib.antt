@@ -2,7 +2,6 @@ pub mod Heads
 pub mod Faults
 pub mod Lists
 pub mod Trying
-pub mod Sheets
 pub mod Passing
 pub mod Meaning
 pub mod Held

@@ -6,7 +6,7 @@
 --   Apart ks            the known states are apart, and below 255
 --   row_in ws s         the row in the place s of the rows ws
 --   RowsBy ks ws n      the rows of the first n known states stand in ws, each in the place of its state
-use Rattle.std.specs.Prelude.{◌≡◌, ℕ, ◌<◌, List, [], map, length, take, slice_index_or}
+use Rattle.std.specs.Prelude.{◌≡◌, ℕ, ◌<◌, List, [], map, length, slice_index_or}
 use Rattle.rows.specs.Rows.{items}
 use Rattle.rows.specs.declared.row.Row.{Row}
 use Rattle.table_format.specs.ItemSets.{Items}
@@ -18,7 +18,7 @@ abbrev pub known_of : Kept → Known
 known_of k = record { state = k.state; row = items k.row }
 
 unfoldable pub listed : KnownStates → List Known
-listed ks = map known_of (take ks.count ks.list)
+listed ks = map known_of ks.list.items
 
 abbrev pub KnowsRow : List Known → Items → Type 0
 KnowsRow ks w = (j : ℕ) × (j < length ks) × (row_at ks j ≡ w)

@@ -13,14 +13,13 @@ use Rattle.table_format.specs.Walks.{passes}
 use Rattle.table_format.specs.Sheets.{table_of, Form}
 use Rattle.table_format.specs.Breaches.{Checked}
 use Rattle.tables.specs.Lists.{row_in}
-use Rattle.tables.specs.Sheets.{held}
 use Rattle.tables.specs.declared.table.Table.{Table}
 
 abbrev pub grammar_of : Table → Grammar
 grammar_of t = t.grammar
 
 abbrev pub bytes : Table → List ℕ
-bytes t = held t.sheet
+bytes t = t.sheet.items
 
 abbrev pub rows_of : Table → ℕ → Items
 rows_of t = row_in t.rows

@@ -3,13 +3,16 @@
 --   InNone f             the fault f is in no state
 --   InState ks i f       the fault f is in the known state in place i
 --   TriedIn ks i r       where the trial r ends the walk, its fault is in the known state in place i
---   Tries g t ks i X r   where the walk is at the symbol X of the known state in place i, the trial r says how it goes on:
---                        with one more known state or none, or to its end
+--   Along c ks i X r     the walk over the table that c claims comes without a fault to where the states ks are known, to the symbol X and
+--                        the rule r of the one in place i
+--   Tries c ks i X r     where it is at the symbol X of the known state in place i, the trial r says how it goes on: with one more known
+--                        state or none, or to its end
 --   Wants g t s w        the walk over the table t comes without a fault to where the state s is known with the row w
 --   RowOf g t s w        where the fault is in the state s, w is the row that the walk wants of it; none without such a state
 --   Halts g t e          the walk over the table t ends with the fault of the finding e, and e has the row of the state that it is in
-use Rattle.std.specs.Prelude.{◌≡◌, ℕ, ◌+◌, List, [], ◌∷◌, ◌++◌, Some, None, Option}
+use Rattle.std.specs.Prelude.{◌≡◌, ℕ, ◌+◌, List, [], ◌∷◌, ◌++◌, Some, None, Option, Ok, Err, Result}
 use Rattle.parsing.specs.Grammar.{Grammar}
+use Rattle.grammar.specs.Meaning.{meaning}
 use Rattle.states.specs.Refusals.{outcome}
 use Rattle.states.specs.declared.fault.TableFault.{TableFault}
 use Rattle.states.specs.declared.fault.TableFault.TheVariants.{WholeLength, CountRange, Offset, ByteRange, StepWhereNone, StepLacking}
@@ -18,10 +21,11 @@ use Rattle.rows.specs.declared.row.Row.{Row}
 use Rattle.rows.specs.Rows.{items}
 use Rattle.table_format.specs.ItemSets.{Items}
 use Rattle.table_format.specs.Tables.{Table}
+use Rattle.table_format.specs.Sheets.{table_of}
 use Rattle.table_format.specs.Walks.{Known, state_at, row_at, KnownAt, Walked, Walk}
 use Rattle.tables.specs.declared.finding.Finding.{Finding}
-use Rattle.tables.specs.declared.trial.Trial.{Trial}
-use Rattle.tables.specs.declared.trial.Trial.TheVariants.{Right, New, Wrong}
+use Rattle.tables.specs.declared.claim.Claim.{Claim}
+use Rattle.tables.specs.declared.known.Known.{Known as Kept}
 use Rattle.tables.specs.Lists.{known_of}
 
 abbrev pub stands_in : TableFault → Option ℕ
@@ -44,15 +48,17 @@ InNone f = stands_in f ≡ None
 abbrev pub InState : List Known → ℕ → TableFault → Type 0
 InState ks i f = stands_in f ≡ Some (state_at ks i)
 
-abbrev pub TriedIn : List Known → ℕ → Trial → Type 0
-TriedIn ks i Right = Unit {0}
-TriedIn ks i (New k) = Unit {0}
-TriedIn ks i (Wrong f) = InState ks i f
+abbrev pub TriedIn : List Known → ℕ → Result (Option Kept) TableFault → Type 0
+TriedIn ks i (Ok o) = Unit {0}
+TriedIn ks i (Err f) = InState ks i f
 
-abbrev pub Tries : Grammar → Table → List Known → ℕ → ℕ → Trial → Type 0
-Tries g t ks i X Right = Walked g t ks i (X + 1) 0
-Tries g t ks i X (New k) = Walked g t (ks ++ known_of k ∷ []) i (X + 1) 0
-Tries g t ks i X (Wrong f) = Walk g t (outcome f)
+abbrev pub Along : Claim → List Known → ℕ → ℕ → ℕ → Type 0
+Along c ks i X r = Walked (meaning c.grammar.now) (table_of c.sheet.now) ks i X r
+
+abbrev pub Tries : Claim → List Known → ℕ → ℕ → Result (Option Kept) TableFault → Type 0
+Tries c ks i X (Ok None) = Along c ks i (X + 1) 0
+Tries c ks i X (Ok (Some k)) = Along c (ks ++ known_of k ∷ []) i (X + 1) 0
+Tries c ks i X (Err f) = Walk (meaning c.grammar.now) (table_of c.sheet.now) (outcome f)
 
 pub record Wants (g : Grammar) (t : Table) (s : ℕ) (w : Items) : Type 0 where
   pub known : List Known

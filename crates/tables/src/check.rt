@@ -4,11 +4,10 @@ ghost use Rattle.grammar.specs.Meaning.{meaning};
 ghost use Rattle.tables.specs.Faults.{Refused, Found};
 ghost use Rattle.tables.specs.Meaning.{Accepted};
 
+use crate::claim::Claim;
 use crate::finding::Finding;
-use crate::header::Header;
-use crate::sheet::Sheet;
 use crate::table::Table;
-use crate::walk::walk;
+use arrayvec::ArrayVec;
 use grammar::Grammar;
 use states::TableFault;
 
@@ -25,18 +24,16 @@ impl Table {
     pub fn examine(grammar: &Grammar, sheet: &[u8]) -> Result<Table, Finding>
         ensures { MatchResult result (λ t. Accepted grammar.now sheet.now t) (λ e. Found (meaning grammar.now) sheet.now e) }
     {
-        let header = Header::check(grammar, sheet)?;
-        let known = walk(grammar, sheet, header)?;
-        if let Some(state) = known.unreached(header.states) {
+        let claim = Claim::check(grammar, sheet)?;
+        let known = claim.walk()?;
+        if let Some(state) = known.unreached(claim.header.states) {
             return Err(TableFault::NeverReached { state }.into());
         }
-        let rows = known.rows();
-        let sheet = Sheet::hold(sheet);
         Ok(Table {
             grammar: *grammar,
-            sheet,
-            header,
-            rows,
+            sheet: ArrayVec::try_from(sheet).unwrap(),
+            header: claim.header,
+            rows: known.rows(),
         })
     }
 
@@ -44,9 +41,6 @@ impl Table {
     pub fn check(grammar: &Grammar, sheet: &[u8]) -> Result<Table, TableFault>
         ensures { MatchResult result (λ t. Accepted grammar.now sheet.now t) (λ f. Refused (meaning grammar.now) sheet.now f) }
     {
-        match Table::examine(grammar, sheet) {
-            Ok(table) => Ok(table),
-            Err(finding) => Err(finding.fault),
-        }
+        Table::examine(grammar, sheet).map_err(|finding| finding.fault)
     }
 }

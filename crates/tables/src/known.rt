@@ -1,20 +1,16 @@
 //! The known states, in the order in which they became known.
-ghost use Rattle.std.specs.Prelude.{◌≡◌, ◌≤◌, length};
-
+use arrayvec::ArrayVec;
 use rows::Row;
 
 /// A known state with the row wanted of it.
-#[derive(Clone, Copy)]
+#[derive(Clone, Copy, Default)]
 pub(crate) struct Known {
     pub(crate) state: u8,
     pub(crate) row: Row,
 }
 
-/// The first `count` of `list`.
-#[derive(Clone, Copy)]
+/// At most as many as there are numbers for states.
+#[derive(Drop)]
 pub(crate) struct KnownStates {
-    pub(crate) list: [Known; 255],
-    pub(crate) count: usize,
-    ghost room: { length list ≡ 255 },
-    ghost few: { count ≤ 255 },
+    pub(crate) list: ArrayVec<Known, 255>,
 }

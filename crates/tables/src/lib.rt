@@ -2,17 +2,15 @@
 #![tactic(auto)]
 
 mod check;
+mod claim;
 mod finding;
 mod form;
 mod header;
-mod holds;
 mod known;
 mod looks;
 mod reads;
-mod sheet;
 mod source;
 mod table;
-mod trial;
 mod walk;
 
 pub use finding::Finding;

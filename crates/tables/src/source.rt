@@ -1,17 +1,21 @@
 //! A checked table as a source of states.
+ghost use Rattle.std.specs.Prelude.{◌≡◌};
 ghost use Rattle.rows.specs.Rows.{RowAt};
-ghost use Rattle.tables.specs.Meaning.{source};
+ghost use Rattle.tables.specs.Meaning.{bytes, source};
 ghost use Rattle.tables.specs.Held.{sourced};
 
+use crate::claim::Claim;
 use crate::table::Table;
 use rows::Row;
 use states::StateSource;
 
+#[tactic(auto, unfolding(crate::specs::Meaning::source, table_format::specs::Tables::source_of))]
 impl StateSource for Table {
     ghost meaning = { source };
 
     ghost lawful = { λ t. sourced t };
 
+    // Each source passes these six on by itself: the trait asks for a meaning, not for a grammar that is held.
     fn terminals(&self) -> u8 {
         self.grammar.terminals()
     }
@@ -45,14 +49,11 @@ impl StateSource for Table {
     }
 
     fn next(&self, state: u8, symbol: u8) -> Option<u8> {
-        let header = self.header;
-        if state >= header.states {
+        let claim = self.claim();
+        if state >= claim.header.states || symbol >= claim.header.symbols {
             return None;
         }
-        if symbol >= header.symbols {
-            return None;
-        }
-        let next = header.step(self.sheet.bytes(), state, symbol);
+        let next = claim.step(state, symbol);
         if next == 255 {
             return None;
         }
@@ -60,18 +61,27 @@ impl StateSource for Table {
     }
 
     fn done(&self, state: u8, rule: u8) -> bool {
-        let header = self.header;
-        if state >= header.states {
+        let claim = self.claim();
+        if state >= claim.header.states || rule >= claim.header.rules {
             return false;
         }
-        if rule >= header.rules {
-            return false;
-        }
-        header.done(self.sheet.bytes(), state, rule) == 1
+        claim.done(state, rule) == 1
     }
 }
 
 impl Table {
+    /// The claim of the sheet that the table holds.
+    fn claim(&self) -> Claim<'_>
+        ensures header { result.header ≡ self.now.header }
+        ensures sheet { result.sheet.now ≡ bytes self.now }
+    {
+        Claim {
+            grammar: &self.grammar,
+            sheet: self.sheet.as_slice(),
+            header: self.header,
+        }
+    }
+
     /// The row of a state; none where there is no such state.
     pub fn row(&self, state: u8) -> Option<Row>
         ensures { RowAt (source self.now) state result }

@@ -2,7 +2,7 @@
 use Rattle.std.proofs.Common.{◌≡◌, ℕ, ◌<◌, List, [], ◌∷◌, ◌++◌, length, Some, None, Ok, Err, codes, Option, sym, refl, ap, ◌∙◌, arith}
 use Rattle.std.specs.List.{flat_map}
 use Rattle.std.proofs.lemmas.List.{append_assoc}
-use Rattle.inspection.specs.Lines.{refusal_line}
+use Rattle.grammar.specs.Lines.{refusal_line}
 use Rattle.words.specs.Feeds.{Coming, Handed}
 use Rattle.words.specs.Refusals.{refusal}
 use Rattle.words.specs.declared.word.Word.{Word}

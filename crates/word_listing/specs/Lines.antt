@@ -5,7 +5,7 @@
 --   word_lines c    a line for each word of c, and the line for its end
 use Rattle.std.specs.Prelude.{ℕ, List, ◌++◌, Some, None, codes, decimal, Option}
 use Rattle.std.specs.List.{flat_map}
-use Rattle.inspection.specs.Lines.{refusal_line}
+use Rattle.grammar.specs.Lines.{refusal_line}
 use Rattle.words.specs.Feeds.{Coming}
 use Rattle.words.specs.Refusals.{refusal}
 use Rattle.words.specs.declared.word.Word.{Word}

@@ -5,7 +5,7 @@ use Rattle.grammar_format.specs.Keeping.{Keeps}
 use Rattle.grammar_format.specs.Sheets.{Sheet, sheet_bytes}
 use Rattle.grammar.specs.Refusals.{Refused, refusal}
 use Rattle.grammar.specs.declared.fault.GrammarFault.{GrammarFault}
-use Rattle.inspection.specs.Lines.{refusal_line}
+use Rattle.grammar.specs.Lines.{refusal_line}
 use Rattle.words.specs.Texts.{text_coming}
 use Rattle.word_listing.specs.Lines.{word_lines}
 

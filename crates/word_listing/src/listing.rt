@@ -1,11 +1,10 @@
 //! The words of any feed, one line after another.
 ghost use Rattle.std.specs.Prelude.{◌≡◌, ◌++◌, IfOk, string_bytes, codes};
-ghost use Rattle.inspection.specs.Lines.{refusal_line};
+ghost use Rattle.grammar.specs.Lines.{refusal_line};
 ghost use Rattle.word_listing.specs.Lines.{word_line, word_lines};
 
 use crate::line::WordLine;
 use grammar::Refusal;
-use inspection::RefusalLine;
 use std::alloc::{AllocError, Global};
 use words::{Word, WordFeed};
 
@@ -21,8 +20,7 @@ fn line_of(heap: Global, word: Word) -> Result<String, AllocError>
 pub(crate) fn refusal_of(heap: Global, refusal: Refusal) -> Result<String, AllocError>
     ensures { IfOk result (λ line. string_bytes line ≡ refusal_line refusal ++ codes "\n") }
 {
-    let line = RefusalLine(refusal);
-    format!(in heap; "{line}\n")
+    format!(in heap; "{refusal}\n")
 }
 
 /// The text, with a line behind it.

@@ -11,5 +11,4 @@ pub mod KeyOrder
 pub mod Standing
 pub mod Saying
 pub mod TextOrder
-pub mod Parting
 pub mod Splitting

@@ -1,6 +1,6 @@
 -- The first press of a record, and the presses behind it.
-use Rattle.std.proofs.Common.{◌≡◌, ℕ, ◌+◌, ◌-◌, ◌*◌, ◌<◌, ◌≤◌, Bool, true, false, cond, eqb, List, [], ◌∷◌, length, take, drop, Some, None, Ok, Err, Result, sym, refl, ap, ◌∙◌, subst, arith}
-use Rattle.std.proofs.lemmas.List.{length-drop, drop-drop, take_rest}
+use Rattle.std.proofs.Common.{◌≡◌, ℕ, ◌+◌, ◌-◌, ◌*◌, ◌<◌, ◌≤◌, Bool, true, false, cond, eqb, List, [], ◌∷◌, length, take, drop, Some, Ok, Err, Result, sym, refl, ap, ◌∙◌, subst, arith}
+use Rattle.std.proofs.lemmas.List.{drop-drop, take_rest}
 use Rattle.std.proofs.lemmas.Bool.{lt-ltb}
 use Rattle.words.specs.Feeds.{told, Handed}
 use Rattle.words.specs.Keys.{key_pressed, presses, key_coming}
@@ -10,7 +10,7 @@ use Rattle.words.specs.declared.press.Press.TheVariants.{Amount, Cut, End, Key}
 use Rattle.words.specs.declared.word.Word.{Word}
 use Rattle.words.specs.declared.fault.FeedFault.{FeedFault}
 use Rattle.words.specs.declared.fault.FeedFault.TheVariants.{CutAmount}
-use Rattle.words.proofs.Handing.{hand_word, hand_fault, hand_end}
+use Rattle.words.proofs.Handing.{hand_word}
 
 -- What a press says of the record that begins with it.
 abbrev pub Pressed : ℕ → ℕ → List ℕ → Press → Type 0
@@ -36,16 +36,6 @@ pressed T i (t ∷ xs) = by_key T i t xs (eqb t 255) (eqb t 0) refl refl
 module _ (T : ℕ) (keys : List ℕ) (i : ℕ) (within : i ≤ length keys) where
   known : (k : Press) → k ≡ press_of (take (length keys - i) (drop i keys)) → Pressed T i (drop i keys) k
   known k e = subst (Pressed T i (drop i keys)) (sym (e ∙ ap press_of (take_rest keys i))) (pressed T i (drop i keys))
-
-  pub key_end : End ≡ press_of (take (length keys - i) (drop i keys)) → Handed (key_coming T i (drop i keys)) (Ok None) (key_coming T i (drop i keys))
-  key_end e = hand_end (key_coming T i (drop i keys)) (key_coming T i (drop i keys)) (ap told (known End e)) refl
-
-  pub key_cut : Cut ≡ press_of (take (length keys - i) (drop i keys)) → Handed (key_coming T i (drop i keys)) (Err (CutAmount i (length keys))) (key_coming T i (drop i keys))
-  key_cut e =
-      let k = known Cut e in
-      let at : i + length (drop i keys) ≡ length keys = simp length-drop (omega arith) in
-      hand_fault (key_coming T i (drop i keys)) (key_coming T i (drop i keys)) (CutAmount i (length keys)) k.0
-      (ap told k.1 ∙ ap (λ n. told (Err (CutAmount i n) ∷ k.0)) at) refl
 
   module _ (w : Word) (n : ℕ) (first : presses T i 0 (drop i keys) ≡ Ok w ∷ presses T (i + n) 0 (drop n (drop i keys))) (to : w.to ≡ i + n) where
     word_given : Handed (key_coming T i (drop i keys)) (Ok (Some w)) (key_coming T w.to (drop w.to keys))

@@ -41,9 +41,6 @@ module _ (xs : List ℕ) (i : ℕ) (inside : i < length xs) (no_blank : is_blank
   first_run_more : first_run (drop i xs) ≡ get_or xs i 0 ∷ first_run (drop (i + 1) xs)
   first_run_more = ap first_run (drop_more xs i 0 inside) ∙ simp (no_hash, no_blank)
 
-  pub first_run_some : 0 < length (first_run (drop i xs))
-  first_run_some = simp first_run_more (omega arith)
-
   begins : runs i (drop i xs) ≡ record { from = i; bytes = get_or xs i 0 ∷ first_run (drop (i + 1) xs) } ∷ begun (i + 1) true (unremarked false (drop (i + 1) xs))
   begins = ap (runs i) (drop_more xs i 0 inside) ∙ simp (no_hash, no_blank)
 

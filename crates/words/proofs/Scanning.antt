@@ -1,13 +1,16 @@
 -- Byte by byte over a text: how its runs go on.
-use Rattle.std.proofs.Common.{◌≡◌, ℕ, ◌+◌, ◌<◌, ◌≤◌, Bool, true, false, ◌⊎◌, List, [], length, get_or, drop, refl, ◌∙◌, inl, inr, arith}
-use Rattle.std.proofs.lemmas.List.{at_drop_more, at_drop_all}
-use Rattle.std.proofs.lemmas.Bool.{false≢true}
+use Rattle.std.proofs.Common.{◌≡◌, ℕ, ◌+◌, ◌<◌, ◌≤◌, Bool, true, false, cond, ◌||◌, not, ltb, List, [], ◌∷◌, length, get_or, drop, Some, None, Option, sym, refl, ap, ◌∙◌, inl, inr, arith}
+use Rattle.std.specs.List.{position, position_or_len, prefix_len}
+use Rattle.std.specs.Option.{unwrap_or}
+use Rattle.std.proofs.lemmas.List.{at_drop_more, at_drop_all, length-take}
+use Rattle.std.proofs.lemmas.List.Recursion.{is_position_or_len}
+use Rattle.std.proofs.lemmas.Bool.{cases_Bool, false≢true, ltb-false}
+use Rattle.std.proofs.lemmas.List.Folds.{length-prefix_len}
 use Rattle.words.specs.Bytes.{is_blank, opens_remark, ends_remark}
 use Rattle.words.specs.Kinds.{Kinded}
 use Rattle.words.specs.Runs.{Run, unremarked, front, begun}
-use Rattle.words.specs.declared.kind.Kind.{Kind}
 use Rattle.words.specs.declared.kind.Kind.TheVariants.{Blank, LineFeed, Hash}
-use Rattle.words.proofs.ByteKinds.{WordByte, at_kind}
+use Rattle.words.proofs.ByteKinds.{WordByte}
 
 -- The runs that begin in the bytes from the place i on, where no run is open; o says whether they begin within a remark.
 abbrev pub ahead : List ℕ → ℕ → Bool → List Run
@@ -48,25 +51,29 @@ module _ (xs : List ℕ) (i : ℕ) (inside : i < length xs) where
   ahead_word true e k = ahead_within k.no_end
   ahead_word false e k = absurd (false≢true e)
 
-  -- The bytes of a run, from its place i on.
-  pub front_more : is_blank (get_or xs i 0) ≡ false → opens_remark (get_or xs i 0) ≡ false → length (front (unremarked false (drop i xs))) ≡ length (front (unremarked false (drop (i + 1) xs))) + 1
-  front_more e f = at_drop_more (λ ys. length (front (unremarked false ys))) xs i 0 inside ∙ simp (f, e) (omega arith)
-
-  front_blank : is_blank (get_or xs i 0) ≡ true → opens_remark (get_or xs i 0) ≡ false → front (unremarked false (drop i xs)) ≡ []
-  front_blank e f = at_drop_more (λ ys. front (unremarked false ys)) xs i 0 inside ∙ simp (f, e)
-
-  front_opens : opens_remark (get_or xs i 0) ≡ true → front (unremarked false (drop i xs)) ≡ []
-  front_opens e = at_drop_more (λ ys. front (unremarked false ys)) xs i 0 inside ∙ simp (e, space_blank)
-
-  pub front_none : (k : Kind) → Kinded k (get_or xs i 0) → (k ≡ Blank) ⊎ ((k ≡ LineFeed) ⊎ (k ≡ Hash)) → front (unremarked false (drop i xs)) ≡ []
-  front_none k h (inl e) = let a = at_kind k (get_or xs i 0) h Blank e in front_blank a.blank_is a.opens_is
-  front_none k h (inr (inl e)) = let a = at_kind k (get_or xs i 0) h LineFeed e in front_blank a.blank_is a.opens_is
-  front_none k h (inr (inr e)) = let a = at_kind k (get_or xs i 0) h Hash e in front_opens a.opens_is
-
 -- Behind the last byte.
 pub ahead_all : (xs : List ℕ) (i : ℕ) (o : Bool) → length xs ≤ i → ahead xs i o ≡ []
 ahead_all xs i true h = at_drop_all (λ ys. begun i false (unremarked true ys)) xs i h
 ahead_all xs i false h = at_drop_all (λ ys. begun i false (unremarked false ys)) xs i h
 
-pub front_all : (xs : List ℕ) (i : ℕ) → length xs ≤ i → front (unremarked false (drop i xs)) ≡ []
-front_all xs i h = at_drop_all (λ ys. front (unremarked false ys)) xs i h
+-- How many bytes stand before the first blank or remark.
+by_byte : (b : ℕ) (xs : List ℕ) → length (front (unremarked false (b ∷ xs))) ≡ cond (opens_remark b || is_blank b) 0 (1 + length (front (unremarked false xs)))
+by_byte b xs =
+    elim (cases_Bool (opens_remark b)) [
+      | inl e ↦ simp (e, space_blank)
+      | inr e ↦ elim (cases_Bool (is_blank b)) [ inl f ↦ simp (e, f) | inr f ↦ simp (e, f) (omega arith) ]
+    ]
+
+-- What ends a run.
+abbrev pub ends : ℕ → Bool
+ends b = opens_remark b || is_blank b
+
+module _ (xs : List ℕ) where
+  tested : (a : Bool) → ltb (position_or_len ends xs) (length xs) ≡ a → unwrap_or (cond a (Some (position_or_len ends xs)) None) (length xs) ≡ position_or_len ends xs
+  tested true e = refl
+  tested false e = omega (arith, ltb-false (position_or_len ends xs) (length xs) e, length-prefix_len (λ b. not (ends b)) xs, length-take (prefix_len (λ b. not (ends b)) xs) xs)
+
+  pub front_found : (o : Option ℕ) → o ≡ position ends xs → unwrap_or o (length xs) ≡ length (front (unremarked false xs))
+  front_found o e =
+      ap (λ x. unwrap_or x (length xs)) e ∙ tested (ltb (position_or_len ends xs) (length xs)) refl
+      ∙ sym (is_position_or_len (λ ys. length (front (unremarked false ys))) ends refl by_byte xs)

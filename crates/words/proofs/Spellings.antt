@@ -1,29 +1,41 @@
 -- Looking for the terminal that bytes spell.
-use Rattle.std.proofs.Common.{◌≡◌, ℕ, ◌+◌, ◌<◌, ◌≤◌, true, false, List, [], length, get_or, drop, Some, None, sym, ap, ◌∙◌, arith}
-use Rattle.std.proofs.lemmas.List.{at_drop_more, at_drop_all}
-use Rattle.std.proofs.lemmas.Bool.{cond_below}
+use Rattle.std.proofs.Common.{◌≡◌, ℕ, zero, suc, ◌+◌, ◌-◌, ◌<◌, ◌≤◌, Bool, true, false, ◌&&◌, List, [], ◌∷◌, length, get_or, drop, Some, None, Option, sym, refl, ap, ◌∙◌, arith, nat_lt}
+use Rattle.std.specs.Option.{MatchOption}
+use Rattle.std.proofs.lemmas.List.{get_or-drop, length-drop}
+use Rattle.std.proofs.lemmas.Bool.{and_parts, lt-ltb}
 use Rattle.grammar_format.specs.Keeping.{spelling_of}
 use Rattle.grammar_format.specs.Sheets.{Sheet}
-use Rattle.grammar.specs.Questions.{spelled}
-use Rattle.words.specs.Texts.{same_spelling, spelled_from}
+use Rattle.words.specs.Texts.{same_spelling, spelled_from, spelled_terminal}
 
-module _ (xs : List (List ℕ)) (t : ℕ) (w : List ℕ) where
-  pub spelled_here : t < length xs → same_spelling (get_or xs t []) w ≡ true → spelled_from t (drop t xs) w ≡ Some t
-  spelled_here h e = at_drop_more (λ ys. spelled_from t ys w) xs t [] h ∙ simp e
+-- The first of some spellings that is the bytes w, from a terminal on; and none, where none is.
+pub spelled_first : (xs : List (List ℕ)) (t i : ℕ) (w : List ℕ) → i < length xs → same_spelling (get_or xs i []) w ≡ true → ((k : ℕ) → k < i → same_spelling (get_or xs k []) w ≡ false) → spelled_from t xs w ≡ Some (t + i)
+spelled_first [] t i w h e f = absurd (omega arith)
+spelled_first (x ∷ xs) t zero w h e f = simp e (ap Some (omega arith))
+spelled_first (x ∷ xs) t (suc i) w h e f =
+    simp (f 0 (omega arith)) (spelled_first xs (t + 1) i w (omega arith) e (λ k l. f (suc k) (omega arith)) ∙ ap Some (omega arith))
 
-  pub spelled_later : t < length xs → same_spelling (get_or xs t []) w ≡ false → spelled_from t (drop t xs) w ≡ spelled_from (t + 1) (drop (t + 1) xs) w
-  spelled_later h e = at_drop_more (λ ys. spelled_from t ys w) xs t [] h ∙ simp e
+pub spelled_never : (xs : List (List ℕ)) (t : ℕ) (w : List ℕ) → ((k : ℕ) → k < length xs → same_spelling (get_or xs k []) w ≡ false) → spelled_from t xs w ≡ None
+spelled_never [] t w f = refl
+spelled_never (x ∷ xs) t w f = simp (f 0 (omega arith)) (spelled_never xs (t + 1) w (λ k l. f (suc k) (omega arith)))
 
-  pub spelled_never : length xs ≤ t → spelled_from t (drop t xs) w ≡ None
-  spelled_never h = at_drop_all (λ ys. spelled_from t ys w) xs t h
+-- Whether the terminal t of the sheet s is spelled with the bytes w.
+abbrev pub spells : Sheet → List ℕ → ℕ → Bool
+spells s w t = nat_lt t s.grammar.terminals && same_spelling (spelling_of s t) w
 
--- What a grammar answers for a terminal that it has.
-module _ (s : Sheet) (t u : ℕ) (same : u ≡ t) (h : t < s.grammar.terminals) where
-  here : spelled s u ≡ Some (spelling_of s t)
-  here = ap (spelled s) same ∙ sym (cond_below t s.grammar.terminals (Some (spelling_of s t)) None h)
+-- The first terminal from 1 up to T that is spelled with the bytes w, if there is one.
+abbrev pub FirstSpelled : Sheet → List ℕ → ℕ → Option ℕ → Type 0
+FirstSpelled s w T r = MatchOption r ((k : ℕ) → 1 ≤ k → k < T → spells s w k ≡ false) (λ i. (1 ≤ i) × (i < T) × (spells s w i ≡ true) × ((k : ℕ) → 1 ≤ k → k < i → spells s w k ≡ false))
 
-  pub spelling_some : (x : List ℕ) → Some x ≡ spelled s u → x ≡ spelling_of s t
-  spelling_some x e = let f = here in cc
+module _ (s : Sheet) (w : List ℕ) (T : ℕ) (all : T ≡ s.grammar.terminals) (one_each : length s.spellings ≡ s.grammar.terminals) where
+  not_spelled : (k : ℕ) → k < s.grammar.terminals → spells s w k ≡ false → same_spelling (spelling_of s k) w ≡ false
+  not_spelled k l e = let f = lt-ltb k s.grammar.terminals l in simp f at e
 
-  pub spelling_none : None ≡ spelled s u → ⊥
-  spelling_none e = let f = here in let z : ◌≡◌ {A = ℕ} 0 1 = cc in omega arith
+  pub first_spelled : (r : Option ℕ) → FirstSpelled s w T r → r ≡ spelled_terminal s w
+  unfolding spelled_terminal
+  first_spelled None h =
+      sym (spelled_never (drop 1 s.spellings) 1 w (λ k l. simp get_or-drop (not_spelled (1 + k) (omega (arith, length-drop 1 s.spellings)) (h (1 + k) (omega arith) (omega (arith, length-drop 1 s.spellings))))))
+  first_spelled (Some i) h =
+      sym (spelled_first (drop 1 s.spellings) 1 (i - 1) w (omega (arith, length-drop 1 s.spellings))
+      (let n : 1 + (i - 1) ≡ i = omega arith in simp (get_or-drop, n) (and_parts (nat_lt i s.grammar.terminals) (same_spelling (spelling_of s i) w) h.2).1)
+      (λ k l. simp get_or-drop (not_spelled (1 + k) (omega arith) (h.3 (1 + k) (omega arith) (omega arith))))
+      ∙ ap Some (omega arith))

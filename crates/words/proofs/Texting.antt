@@ -1,13 +1,12 @@
 -- What a text feed answers.
-use Rattle.std.proofs.Common.{◌≡◌, ℕ, ◌≤◌, true, false, List, ◌∷◌, map, length, drop, is_err, IsErrAnd, Some, None, Ok, Err, Result, sym, refl, ap, ◌∙◌, arith}
+use Rattle.std.proofs.Common.{◌≡◌, ℕ, true, List, ◌∷◌, map, drop, is_err, IsErrAnd, Some, Ok, Err, Result, sym, refl, ap, ◌∙◌, arith}
 use Rattle.grammar_format.specs.Sheets.{Sheet}
 use Rattle.words.specs.Feeds.{told, Handed}
 use Rattle.words.specs.Runs.{Run, runs}
 use Rattle.words.specs.Texts.{said, text_coming}
 use Rattle.words.specs.declared.word.Word.{Word}
 use Rattle.words.specs.declared.fault.FeedFault.{FeedFault}
-use Rattle.words.proofs.Handing.{hand_word, hand_fault, hand_end}
-use Rattle.words.proofs.Scanning.{ahead_all}
+use Rattle.words.proofs.Handing.{hand_word, hand_fault}
 
 -- What a `?` hands on.
 pub err_is : {A E : Type 0} (r : Result A E) (x : E) → (is_err r ≡ true) × IsErrAnd r (λ y. y ≡ x) → r ≡ Err x
@@ -15,12 +14,6 @@ err_is (Ok a) x h = let k = h.0 in let z : ◌≡◌ {A = ℕ} 0 1 = cc in absur
 err_is (Err y) x h = ap Err h.1
 
 module _ (s : Sheet) (xs : List ℕ) (p i : ℕ) (same : runs i (drop i xs) ≡ runs p (drop p xs)) where
-  pub text_end : length xs ≤ i → Handed (text_coming s p (drop p xs)) (Ok None) (text_coming s i (drop i xs))
-  text_end h =
-      hand_end (text_coming s p (drop p xs)) (text_coming s i (drop i xs))
-      (ap (λ rs. told (map (said s) rs)) (sym same ∙ ahead_all xs i false h))
-      (ap (λ rs. told (map (said s) rs)) same)
-
   -- The first run, and those behind it.
   module _ (j : ℕ) (r : Run) (first : runs i (drop i xs) ≡ r ∷ runs j (drop j xs)) where
     answers : text_coming s p (drop p xs) ≡ told (said s r ∷ map (said s) (runs j (drop j xs)))

@@ -7,7 +7,8 @@
 --   spelling_said r o      what any other run r says, o being the terminal that it spells
 --   said s r               what the run r says: a word, or a fault
 --   text_coming s i xs     the words of the bytes xs, which stand from the place i on
-use Rattle.std.specs.Prelude.{ℕ, ◌+◌, Bool, true, cond, ◌&&◌, List, [], ◌∷◌, map, length, drop, Some, None, Ok, Err, Option, Result, nat_le}
+use Rattle.std.specs.Prelude.{ℕ, ◌+◌, Bool, cond, List, [], ◌∷◌, map, length, drop, Some, None, Ok, Err, Option, Result, nat_le}
+use Rattle.std.specs.List.{list_all}
 use Rattle.std.specs.Str.Parse.{digits_value}
 use Rattle.std.specs.Str.{bytes_eq}
 use Rattle.grammar_format.specs.Sheets.{Sheet}
@@ -19,8 +20,7 @@ use Rattle.words.specs.declared.fault.FeedFault.{FeedFault}
 use Rattle.words.specs.declared.fault.FeedFault.TheVariants.{UnknownWord, LongAmount}
 
 abbrev pub all_digits : List ℕ → Bool
-all_digits [] = true
-all_digits (b ∷ w) = is_digit b && all_digits w
+all_digits w = list_all is_digit w
 
 abbrev pub same_spelling : List ℕ → List ℕ → Bool
 same_spelling x w = bytes_eq x w

@@ -17,12 +17,11 @@ pub enum FeedFault {
     CutAmount { from: usize, to: usize },
 }
 
-impl FeedFault {
-    /// The refusal that the fault is shown as.
-    pub fn refusal(&self) -> Refusal
-        ensures { result ≡ told self.now }
-    {
-        let (number, first, second) = match *self {
+impl From<FeedFault> for Refusal {
+    ghost from_gives = { λ fault refusal. refusal ≡ told fault };
+
+    fn from(fault: FeedFault) -> Refusal {
+        let (number, first, second) = match fault {
             FeedFault::UnknownWord { from, to } => (51, from, to),
             FeedFault::LongAmount { from, to } => (52, from, to),
             FeedFault::UnknownKey { from, to } => (53, from, to),
@@ -34,5 +33,14 @@ impl FeedFault {
             first,
             second,
         }
+    }
+}
+
+impl FeedFault {
+    /// The refusal that the fault is shown as.
+    pub fn refusal(&self) -> Refusal
+        ensures { result ≡ told self.now }
+    {
+        Refusal::from(*self)
     }
 }

@@ -1,4 +1,6 @@
 //! What a byte of a text is.
+ghost use Rattle.std.specs.Prelude.{◌≡◌, ◌||◌};
+ghost use Rattle.words.specs.Bytes.{is_blank, opens_remark, is_digit as digit};
 ghost use Rattle.words.specs.Kinds.{Kinded};
 
 /// The kinds of bytes.
@@ -16,6 +18,7 @@ pub(crate) enum Kind {
 
 impl Kind {
     /// The kind of a byte.
+    #[tactic(auto, unfolding(crate::specs::Bytes::is_blank, crate::specs::Bytes::opens_remark, crate::specs::Bytes::ends_remark, crate::specs::Bytes::is_digit))]
     pub(crate) fn of(byte: u8) -> Kind
         ensures { Kinded result byte }
     {
@@ -27,4 +30,18 @@ impl Kind {
             _ => Kind::Other,
         }
     }
+}
+
+/// Whether a byte ends a run: a blank, or what opens a remark.
+pub(crate) fn ends_run(byte: u8) -> bool
+    ensures { result ≡ (opens_remark byte || is_blank byte) }
+{
+    matches!(Kind::of(byte), Kind::Blank | Kind::LineFeed | Kind::Hash)
+}
+
+/// Whether a byte is a digit.
+pub(crate) fn is_digit(byte: u8) -> bool
+    ensures { result ≡ digit byte }
+{
+    matches!(Kind::of(byte), Kind::Digit)
 }

@@ -34,7 +34,7 @@ impl WordFeed for KeyFeed<'_> {
         let word = match Press::first(&self.keys[from..]) {
             Press::Amount(hi, lo) => Word {
                 terminal: 0,
-                amount: 256 * u32::from(hi) + u32::from(lo),
+                amount: u32::from(u16::from_be_bytes([hi, lo])),
                 from,
                 to: from + 3,
             },

@@ -3,7 +3,7 @@ ghost use Rattle.std.specs.Prelude.{◌≡◌, ◌+◌, ◌<◌, ◌≤◌, fals
 ghost use Rattle.words.specs.Bytes.{is_blank, opens_remark};
 ghost use Rattle.words.specs.Runs.{unremarked, front, runs};
 
-use crate::kind::Kind;
+use crate::kind::{Kind, ends_run};
 
 /// Where the first run from a place on begins; the length of the text where there is none.
 pub(crate) fn run_start(text: &[u8], place: usize) -> usize
@@ -11,15 +11,18 @@ pub(crate) fn run_start(text: &[u8], place: usize) -> usize
     ensures same { runs result (drop result text.now) ≡ runs place (drop place text.now) }
     ensures begins { result < length text.now → (is_blank (slice_index text.now result) ≡ false) × (opens_remark (slice_index text.now result) ≡ false) }
 {
+    let Some(rest) = text.get(place..) else {
+        return text.len();
+    };
     let mut remark = false;
-    for i in place..text.len() {
-        match Kind::of(text[i]) {
+    for (i, byte) in rest.iter().enumerate() {
+        match Kind::of(*byte) {
             Kind::LineFeed => remark = false,
             Kind::Hash => remark = true,
             Kind::Blank => {}
             Kind::Digit | Kind::Other => {
                 if !remark {
-                    return i;
+                    return place + i;
                 }
             }
         }
@@ -33,11 +36,7 @@ pub(crate) fn run_end(text: &[u8], from: usize) -> usize
     ensures value { result ≡ from + length (front (unremarked false (drop from text.now))) }
     ensures within { result ≤ length text.now }
 {
-    for i in from..text.len() {
-        match Kind::of(text[i]) {
-            Kind::Blank | Kind::LineFeed | Kind::Hash => return i,
-            Kind::Digit | Kind::Other => {}
-        }
-    }
-    text.len()
+    let rest = &text[from..];
+    let length = rest.iter().position(|byte| ends_run(*byte));
+    from + length.unwrap_or(rest.len())
 }

@@ -1,13 +1,20 @@
-use Rattle.std.proofs.Common.{◌≡◌, ◌≤◌, List, [], length, sym, ap, subst, inl, inr, arith, rules}
+use Rattle.std.proofs.Common.{Result, Err, ℕ, ◌<◌, Bool, ◌≡◌, ◌≤◌, List, [], length, sym, ap, subst, inl, inr, arith, rules}
 use Rattle.std.proofs.lemmas.List.{length-take-le}
 use Rattle.register.specs.declared.register.Register.{Register}
-use Rattle.register.specs.Registers.{held, room, Climbs, Has, More}
+use Rattle.register.specs.declared.register.Full.{Full}
+use Rattle.register.specs.Registers.{Filled, held, room, Climbs, Has, More}
 use Rattle.register.proofs.Growing.{more_from, has_none}
+use Rattle.parsing.specs.Grammar.{Grammar}
+use Rattle.records.specs.declared.node.Node.{Node}
 use Rattle.records.specs.declared.alternative.Alternative.{Alternative}
 use Rattle.records.specs.Blanks.{blank_node, blank_alternative}
 use Rattle.records.specs.Orders.{by_node, by_alternative}
-use Rattle.sweep.specs.Sweeps.{MetNode, Exactly, OfSome}
-use Rattle.forest.specs.Forests.{MetRecord}
+use Rattle.sweep.specs.Sweeps.{Collected, MetNode, Exactly, OfSome}
+use Rattle.forest.specs.Forests.{MetRecord, Short, Writes}
+use Rattle.forest.specs.declared.gathering.Counts.{Counts}
+use Rattle.forest.specs.declared.fault.GatherFault.{GatherFault}
+use Rattle.forest.specs.declared.fault.GatherFault.TheVariants.{AlternativesShort}
+use Rattle.forest.proofs.Mapped.{ok_before, err_before}
 use Rattle.forest.proofs.Sizes.{enough}
 use Rattle.forest.proofs.Records.{of_met, met_of}
 use Rattle.forest.proofs.Answering.{lists}
@@ -21,29 +28,40 @@ held_few a = let w = a.within in let l = length-take-le a.count a.slots.now w in
 none_climb : (zs : List Alternative) → zs ≡ [] → Climbs by_alternative zs
 none_climb zs e = subst (λ us. Climbs by_alternative us) (sym e) (λ p q d pq l. absurd (omega arith))
 
-pub returns-in_default-put_all_alternatives : goal.returns-in_default-put_all_alternatives
-returns-in_default-put_all_alternatives g c l =
+-- What is told of a list of alternatives that is too short.
+alternatives_short : (g : Grammar) (fits : ℕ → ℕ → ℕ → Bool) (n : ℕ) (xs : List Node) (ys : List Alternative) (vs : List Node) (zs : List Alternative)
+    (r : Result Counts GatherFault) → r ≡ Err AlternativesShort → (n < 255 → (Short (MetNode g fits n) xs → ⊥) × Short (MetRecord g fits n) ys)
+    → Writes g fits n xs ys vs zs r
+alternatives_short g fits n xs ys vs zs r e h = subst (λ (q : Result Counts GatherFault). Writes g fits n xs ys vs zs q) (sym e) h
+
+pub returns-in_err-map_err-2 : goal.returns-in_err-map_err-2
+returns-in_err-map_err-2 g c =
     let gr = (g.S.StateSource.meaning c.args.source.now).grammar in
     let wf = (g.met.S.StateSource.lawful c.args.source.now).well_formed in
     let says = g.F.Fits.says c.args.spans.now in
     let n = c.args.last in
     let a = c.new-node_register.result in
     let b = c.put_all_nodes.new.nodes in
-    let e = c.in-Ok.ensures in
+    let e = subst (λ (r : Result (Unit {0}) Full). Collected gr says n a b r) (ok_before _ c.put_all_nodes.result c.map_err.result _ c.map_err.ensures.cases c.in_ok-map_err.was) c.put_all_nodes.ensures in
+    let a' = c.new-register.result in
+    let none = c.new-register.ensures.none in
+    let us = c.records.result.now in
+    let (q, k) = err_before _ c.put_all_alternatives.result c.map_err-2.result _ c.map_err-2.ensures.cases c.in_err-map_err-2.was in
+    let lacks = subst (λ (r : Result (Unit {0}) Full). Filled by_alternative (OfSome gr says us (length us)) a' c.put_all_alternatives.new.alternatives r) k c.put_all_alternatives.ensures in
+    let why : c.from_residual-in_err-map_err-2.result ≡ Err AlternativesShort = search rules in
+    alternatives_short gr says n c.args.nodes.now c.args.alternatives.now _ _ c.from_residual-in_err-map_err-2.result why
+    (λ l.
     let exact : Exactly gr says n (held b) = e.1 c.new-node_register.ensures.none l in
     let size : room a ≡ length c.args.nodes.now = ap length c.new-node_register.ensures.slots in
     let few = held_few b in
     let same = e.0.size in
-    let a' = c.new-register.result in
-    let none = c.new-register.ensures.none in
-    let us = c.records.result.now in
-    let short = c.in_default-put_all_alternatives.ensures.short (none_climb (held a') none) in
+    let short = lacks.short (none_climb (held a') none) in
     let exact' : Exactly gr says n us = subst (λ vs. Exactly gr says n vs) (sym c.records.ensures) exact in (
       enough blank_node (MetNode gr says n) (held b) (length c.args.nodes.now) (omega arith) exact.whole,
       subst (λ t. More (MetRecord gr says n) [] t) (ap length c.new-register.ensures.slots)
           (more_from (OfSome gr says us (length us)) (MetRecord gr says n) (held a') [] (room a')
           (λ z h. elim h [ inl x ↦ inl (subst (λ vs. Has vs z) none x) | inr x ↦ inr (of_met gr wf says n us exact' z x) ]) short),
-    )
+    ))
 
 pub returns : goal.returns
 returns g c l =
@@ -52,12 +70,14 @@ returns g c l =
     let says = g.F.Fits.says c.args.spans.now in
     let n = c.args.last in
     let b = c.put_all_nodes.new.nodes in
-    let exact : Exactly gr says n (held b) = c.in-Ok.ensures.1 c.new-node_register.ensures.none l in
+    let a = c.new-node_register.result in
+    let e = subst (λ (r : Result (Unit {0}) Full). Collected gr says n a b r) (ok_before _ c.put_all_nodes.result c.map_err.result _ c.map_err.ensures.cases c.in_ok-map_err.was) c.put_all_nodes.ensures in
+    let exact : Exactly gr says n (held b) = e.1 c.new-node_register.ensures.none l in
     let a' = c.new-register.result in
     let b' = c.put_all_alternatives.new.alternatives in
     let none = c.new-register.ensures.none in
     let us = c.records.result.now in
-    let grew = c.in-Ok-put_all_alternatives.ensures in
+    let grew = subst (λ (r : Result (Unit {0}) Full). Filled by_alternative (OfSome gr says us (length us)) a' b' r) (ok_before _ c.put_all_alternatives.result c.map_err-2.result _ c.map_err-2.ensures.cases c.in_ok-map_err-2.was) c.put_all_alternatives.ensures in
     let exact' : Exactly gr says n us = subst (λ vs. Exactly gr says n vs) (sym c.records.ensures) exact in
     record {
       nodes = lists by_node (MetNode gr says n) blank_node c.blank.result b c.fill_rest.new.self _ c.len.result

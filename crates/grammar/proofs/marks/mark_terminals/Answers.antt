@@ -1,14 +1,11 @@
-use Rattle.std.proofs.Common.{sym, refl, ◌∙◌, arith}
-use Rattle.std.proofs.lemmas.List.{length-set}
-use Rattle.std.proofs.lemmas.Bool.{le-ltb}
-use Rattle.grammar.proofs.Marking.{none_marked, terminals_more}
+use Rattle.std.proofs.Common.{◌≡◌, ℕ, length, take, replicate, true, false, ltb, ap, ◌∙◌, arith}
+use Rattle.std.proofs.lemmas.List.{length-take-le, length-replicate}
+use Rattle.grammar.proofs.Marking.{front_marked}
 use Rattle.grammar.proofs.marks.mark_terminals.Goals as goal
 
-pub loop-t-init : goal.loop-t-init
-loop-t-init c = (refl, λ X. none_marked 64 X ∙ sym (le-ltb X 0 (omega arith)))
-
-pub loop-t-preserved : goal.loop-t-preserved
-loop-t-preserved c = (
-  simp length-set c.loop-t.invariant.0,
-  terminals_more c.loop-t.marks c.loop-t.t (omega (arith, c.loop-t.invariant.0)) c.loop-t.invariant.1,
-)
+pub returns : goal.returns
+returns c X =
+    let n = c.from-terminals.result in
+    let e : c.fill.new.self ≡ replicate (length (take n (replicate 256 false))) true = c.fill.ensures.after (λ y h. h) in
+    let l : length (take n (replicate 256 false)) ≡ n = length-take-le n (replicate 256 false) (omega (arith, length-replicate 256 false)) in
+    front_marked n 256 c.fill.new.self (e ∙ ap (λ (k : ℕ). replicate k true) l) X ∙ ap (ltb X) c.from-terminals.ensures

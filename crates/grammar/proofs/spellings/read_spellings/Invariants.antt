@@ -1,13 +1,13 @@
-use Rattle.std.proofs.Common.{◌≡◌, ℕ, ◌<◌, length}
-use Rattle.grammar_format.specs.Fields.{remains, spelling}
+use Rattle.std.proofs.Common.{◌≡◌, length}
+use Rattle.grammar_format.specs.Fields.{remains, spelling, listed}
 use Rattle.grammar_format.specs.Breaches.{CleanTo}
-use Rattle.grammar.specs.Holding.{spelling_at, letters, Fitted}
+use Rattle.grammar.specs.Holding.{words}
+use Rattle.grammar.specs.Lists.{items}
 use Rattle.grammar.proofs.spellings.read_spellings.Given as goal
 
 abbrev pub invariant-loop-t : goal.invariant-loop-t
 invariant-loop-t l =
-    (length l.spellings ≡ 40)
-    × ((k : ℕ) → k < l.t → Fitted (spelling_at l.spellings k))
-    × ((k : ℕ) → k < l.t → letters (spelling_at l.spellings k) ≡ spelling l.sheet k)
+    (length (items l.spellings) ≡ l.t)
+    × (words (items l.spellings) ≡ listed (spelling l.sheet) l.t)
     × (l.rest ≡ remains l.sheet l.t)
     × CleanTo l.sheet 15 l.t

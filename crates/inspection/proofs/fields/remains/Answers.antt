@@ -1,12 +1,11 @@
-use Rattle.std.proofs.Common.{◌≡◌, ◌+◌, ◌-◌, ◌*◌, [], drop, sym, ap, ◌∙◌, arith, eqb-true}
+use Rattle.std.proofs.Common.{◌≡◌, ◌+◌, ◌-◌, [], sym, ap, ◌∙◌, arith, eqb-true}
 use Rattle.std.proofs.lemmas.List.{nil_from_length}
 use Rattle.grammar_format.specs.Fields.{remains, behind_spelling}
-use Rattle.inspection.proofs.Places.{remains_none, remains_more}
+use Rattle.inspection.proofs.Places.{remains_none, remains_more, rules_told}
 use Rattle.inspection.proofs.fields.remains.Goals as goal
 
 pub loop-init : goal.loop-init
-unfolding remains
-loop-init c = c.behind-rest.ensures ∙ ap (λ n. drop (12 + 9 * n) c.args.sheet.now) c.number.ensures.value
+loop-init c = c.behind-rest.ensures ∙ rules_told c.args.sheet.now c.of.result c.from.result c.from.ensures c.of.ensures
 
 pub returns-then-is_empty : goal.returns-then-is_empty
 returns-then-is_empty c =
@@ -18,8 +17,3 @@ returns-then-is_empty c =
 
 pub loop-preserved : goal.loop-preserved
 loop-preserved c = c.split_spelling.ensures.behind ∙ ap behind_spelling c.loop.invariant ∙ remains_more c.args.sheet.now c.loop.counter
-
-pub returns : goal.returns
-returns c =
-    let e : c.loop.counter ≡ c.args.terminal = omega arith in
-    c.loop.invariant ∙ ap (remains c.args.sheet.now) e

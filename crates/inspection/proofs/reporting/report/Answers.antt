@@ -3,7 +3,7 @@ use Rattle.std.proofs.lemmas.Result.{IfOk-weaker}
 use Rattle.grammar_format.specs.Sheets.{sheet_bytes}
 use Rattle.grammar.specs.Meaning.{sheet}
 use Rattle.grammar.specs.Refusals.{refusal}
-use Rattle.inspection.specs.Lines.{refusal_line}
+use Rattle.grammar.specs.Lines.{refusal_line}
 use Rattle.inspection.specs.Listings.{listing}
 use Rattle.inspection.specs.Reports.{Report, closing_line}
 use Rattle.inspection.proofs.reporting.report.Goals as goal

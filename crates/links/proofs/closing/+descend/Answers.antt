@@ -9,27 +9,26 @@ use Rattle.links.proofs.closing.+descend.Goals as goal
 
 pub descend-requires : goal.descend-requires
 descend-requires g t c κs =
-    let src = g.S.StateSource.meaning c.args.source.now in
+    let src = g.S.StateSource.meaning c.args.over.now.source.now in
     let u = c.args.table.now in
     let m = c.args.steps - 1 in
     let is : c.args.steps ≡ suc m = omega (arith, c.if-steps-eq0.false) in
     let Q : ℕ → ℕ → ℕ → Type 0 = Makes src None u.place (content u) in
     λ live. (
       omega (arith, c.if-steps-eq0.false, c.decreases),
-      (live, (c.requires.bound, ends_step src c.args.x m Q c.spread.ensures (subst (λ v. Ends src c.args.x v (cells_of c.args.here.now) (content u) Q) is c.requires.allowed))),
+      (live, ends_step src c.args.x m Q c.spread.ensures (subst (λ v. Ends src c.args.x v (cells_of c.args.here.now) (content u) Q) is c.requires)),
     )
 
 pub returns : goal.returns
 returns g t c =
-    let src = g.S.StateSource.meaning c.args.source.now in
+    let src = g.S.StateSource.meaning c.args.over.now.source.now in
     let u = c.args.table.now in
     let v = c.descend.new.table in
     let m = c.args.steps - 1 in
     let is : c.args.steps ≡ suc m = omega (arith, c.if-steps-eq0.false) in
     let Q : ℕ → ℕ → ℕ → Type 0 = λ s b i. Has (content v) s u.place b i in
     record {
-      kept = c.descend.ensures.kept;
-      grown = c.descend.ensures.grown;
+      along = c.descend.ensures.along;
       cases = both c.descend.result c.descend.ensures.cases
           (λ e. subst (λ z. Ends src c.args.x z (cells_of c.args.here.now) (content u) Q) (sym is) (ends_back src c.args.x m Q c.spread.ensures e))
           (λ o. o);

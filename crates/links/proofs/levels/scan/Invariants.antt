@@ -1,7 +1,8 @@
-use Rattle.link_growth.specs.Entries.{at, upper, lower, Mem}
-use Rattle.link_growth.specs.Picking.{Picked}
+use Rattle.link_growth.specs.declared.Link.{Link}
+use Rattle.link_growth.specs.Entries.{upper, lower, Mem}
 use Rattle.links.specs.Sets.{cells_of}
+use Rattle.links.proofs.Spreads.{Passed}
 use Rattle.links.proofs.levels.scan.Given as goal
 
-abbrev pub invariant-loop-k : goal.invariant-loop-k
-invariant-loop-k l = Picked (λ h. Mem (upper (at l.table.links h)) (cells_of l.here)) (λ h. lower (at l.table.links h)) l.start l.k (cells_of l.initial.there) (cells_of l.there)
+abbrev pub invariant-loop-link : goal.invariant-loop-link
+invariant-loop-link l = Passed (λ (k : Link). Mem (upper k) (cells_of l.here)) lower l.link-items l.link-index (cells_of l.initial.there) (cells_of l.there)

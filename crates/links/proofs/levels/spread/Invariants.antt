@@ -5,4 +5,4 @@ use Rattle.links.proofs.Spreads.{Spreading}
 use Rattle.links.proofs.levels.spread.Given as goal
 
 abbrev pub invariant-loop-k : goal.invariant-loop-k
-invariant-loop-k l = (l.here.list ≡ l.initial.here.list) × (l.here.count ≡ l.initial.here.count) × Spreading (content l.table) (cells_of l.initial.here) l.k (cells_of l.there)
+invariant-loop-k l = (cells_of l.here ≡ cells_of l.initial.here) × Spreading (content l.table) (cells_of l.initial.here) l.k (cells_of l.there)

@@ -3,12 +3,8 @@ use Rattle.std.proofs.lemmas.Result.{err_from_is_err_and}
 use Rattle.register.proofs.Growing.{filled_short}
 use Rattle.records.specs.Orders.{by_alternative}
 use Rattle.sweep.specs.Sweeps.{OfSome}
-use Rattle.sweep.proofs.Listing.{some_none, node_taken, node_short}
+use Rattle.sweep.proofs.Listing.{node_taken, node_short}
 use Rattle.sweep.proofs.alternatives.put_all_alternatives.Goals as goal
-
-pub loop-k-init : goal.loop-k-init
-loop-k-init g c =
-    some_none (g.S.StateSource.meaning c.args.source.now).grammar (g.F.Fits.says c.args.spans.now) c.args.nodes.now c.args.alternatives.now
 
 pub returns-in_err-put_alternatives : goal.returns-in_err-put_alternatives
 returns-in_err-put_alternatives g c =
@@ -17,10 +13,10 @@ returns-in_err-put_alternatives g c =
     let us = c.args.nodes.now in
     let b = err_from_is_err_and c.from_residual.result c.from_residual.ensures.1 in
     filled_short by_alternative (OfSome gr says us (length us)) c.args.alternatives.now c.put_alternatives.new.alternatives c.from_residual.result b.0 b.1
-    (node_short gr says us c.args.alternatives.now c.loop-k.alternatives c.put_alternatives.new.alternatives c.loop-k.k (length us) c.loop-k-test.true
-    c.loop-k.invariant c.in_err-put_alternatives.ensures)
+    (node_short gr says us c.args.alternatives.now c.loop-node.alternatives c.put_alternatives.new.alternatives c.loop-node.node-index (length us) c.loop-node-test.true
+    c.loop-node.invariant c.in_err-put_alternatives.ensures)
 
-pub loop-k-preserved : goal.loop-k-preserved
-loop-k-preserved g c =
+pub loop-node-preserved : goal.loop-node-preserved
+loop-node-preserved g c =
     node_taken (g.S.StateSource.meaning c.args.source.now).grammar (g.F.Fits.says c.args.spans.now) c.args.nodes.now
-    c.args.alternatives.now c.loop-k.alternatives c.put_alternatives.new.alternatives c.loop-k.k c.loop-k.invariant c.in_ok-put_alternatives.ensures
+    c.args.alternatives.now c.loop-node.alternatives c.put_alternatives.new.alternatives c.loop-node.node-index c.loop-node.invariant c.in_ok-put_alternatives.ensures

@@ -1,8 +1,8 @@
-use Rattle.std.proofs.Common.{◌≡◌, [], sym, subst, arith}
+use Rattle.std.proofs.Common.{◌≡◌, ◌+◌, [], sym, subst, arith}
 use Rattle.std.proofs.lemmas.Result.{err_from_is_err_and}
 use Rattle.parsing.specs.Grammar.{start}
 use Rattle.register.specs.Registers.{held, More, Grew, Lacks}
-use Rattle.register.proofs.Growing.{same_slots, then-slots, grew_put, lacks_put}
+use Rattle.register.proofs.Growing.{then-slots, grew_put, lacks_put}
 use Rattle.records.specs.declared.node.Node.{Node}
 use Rattle.records.specs.Orders.{by_node}
 use Rattle.records.proofs.Faith.{node_faithful}
@@ -25,9 +25,6 @@ returns-in_err-_new g c =
     (lacks_put by_node c.args.nodes.now c.insert.new.self (node_at x 0 n) b.0 c.in_err-_new.ensures) in
     subst (λ r. Collected gr says n c.args.nodes.now c.insert.new.self r) (sym b.1)
     (lacks.same, λ none l. first_short gr wf says (g.met.F.Fits.forward c.args.spans.now) n c.args.nodes.now c.insert.new.self none lacks)
-
-pub loop-i-init : goal.loop-i-init
-loop-i-init g c = (same_slots c.insert.new.self, λ l s. s)
 
 pub returns-in_err-sweep_from : goal.returns-in_err-sweep_from
 returns-in_err-sweep_from g c =
@@ -57,8 +54,8 @@ loop-i-preserved g c =
       λ l s. u.goes_on c.args.last l (v.1 l s),
     )
 
-pub returns : goal.returns
-returns g c =
+pub returns-in_ok-sweep_from : goal.returns-in_ok-sweep_from
+returns-in_ok-sweep_from g c =
     let gr = (g.S.StateSource.meaning c.args.source.now).grammar in
     let wf = (g.met.S.StateSource.lawful c.args.source.now).well_formed in
     let says = g.F.Fits.says c.args.spans.now in
@@ -66,10 +63,11 @@ returns g c =
     let n = c.args.last in
     let x = c.right.result in
     let v = c.loop-i.invariant in
+    let u = c.in_ok-sweep_from.ensures in
     let grew : Grew by_node (λ (z : Node). z ≡ node_at (start gr) 0 n) c.args.nodes.now c.insert.new.self =
     subst (λ t. Grew by_node (λ (z : Node). z ≡ node_at t 0 n) c.args.nodes.now c.insert.new.self) (start_is gr wf x c.right.ensures)
     (grew_put by_node node_faithful c.args.nodes.now c.insert.new.self (node_at x 0 n) c.in_ok-_new._new c.in_ok-_new.ensures) in (
-      then-slots c.args.nodes.now c.insert.new.self c.loop-i.nodes grew.same v.0,
-      λ none l. last_sweep gr wf says forward n c.loop-i.i (held c.loop-i.nodes) (omega arith)
-          (v.1 l (first_sweep gr wf says forward n c.args.nodes.now c.insert.new.self none grew)),
+      then-slots c.args.nodes.now c.loop-i.nodes c.sweep_from.new.nodes (then-slots c.args.nodes.now c.insert.new.self c.loop-i.nodes grew.same v.0) u.same,
+      λ none l. last_sweep gr wf says forward n (c.loop-i.i + 1) (held c.sweep_from.new.nodes) (omega arith)
+          (u.goes_on n l (v.1 l (first_sweep gr wf says forward n c.args.nodes.now c.insert.new.self none grew))),
     )

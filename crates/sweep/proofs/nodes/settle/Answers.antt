@@ -1,10 +1,11 @@
 use Rattle.std.proofs.Common.{◌+◌, true, [], length, sym, ap, ◌∙◌, subst, arith, length-set}
 use Rattle.std.proofs.lemmas.Result.{err_from_is_err_and}
 use Rattle.parsing.specs.Grammar.{rule_count}
-use Rattle.register.specs.Registers.{held, More}
+use Rattle.register.specs.Registers.{held, More, Grew}
+use Rattle.records.specs.Orders.{by_node}
 use Rattle.register.proofs.Growing.{same_slots, then-slots}
 use Rattle.parts.specs.Parts.{PartBelow}
-use Rattle.sweep.specs.Finding.{node_at}
+use Rattle.sweep.specs.Finding.{node_at, Open}
 use Rattle.sweep.specs.Sweeps.{MetNode, Settles, Past}
 use Rattle.sweep.proofs.Sweeping.{Cell, falses_set, cell_start, cell_grow, cell_end, sweep_short, held_none, held_more}
 use Rattle.sweep.proofs.nodes.settle.Goals as goal
@@ -47,10 +48,10 @@ loop-symbol-preserved g c =
     let says = g.F.Fits.says c.args.spans.now in
     let i = c.args.i in
     let j = c.args.j in
-    let x = c.in-Some.symbol in
+    let x = c.from.result in
     let v = c.loop-symbol.invariant in
-    let o = c.in-Some.ensures in
-    let u = c.in_ok-put_parts.ensures in (
+    let o = subst (λ t. Open (held c.loop-symbol.nodes) i j c.loop-symbol.done t) (sym c.from.ensures) c.in-Some.ensures in
+    let u = subst (λ t. Grew by_node (PartBelow src.grammar says (node_at t i j) (rule_count src.grammar)) c.loop-symbol.nodes c.put_parts.new.nodes) (sym c.from.ensures) c.in_ok-put_parts.ensures in (
       length-set c.loop-symbol.done x true ∙ v.0,
       then-slots c.args.nodes.now c.loop-symbol.nodes c.put_parts.new.nodes v.1 u.same,
       held_more i j x c.loop-symbol.done c.loop-symbol.nodes c.put_parts.new.nodes (PartBelow src.grammar says (node_at x i j) (rule_count src.grammar)) o.held u v.2,
@@ -59,10 +60,11 @@ loop-symbol-preserved g c =
 
 pub loop-symbol-smaller : goal.loop-symbol-smaller
 loop-symbol-smaller g c =
-    let o = c.in-Some.ensures in
+    let e = c.from.ensures in
+    let o = subst (λ t. Open (held c.loop-symbol.nodes) c.args.i c.args.j c.loop-symbol.done t) (sym e) c.in-Some.ensures in
     let v = c.loop-symbol.invariant.0 in
     let s = o.small in
-    falses_set c.loop-symbol.done c.in-Some.symbol (omega arith) o.fresh
+    falses_set c.loop-symbol.done c.from.result (omega arith) o.fresh
 
 pub returns : goal.returns
 returns g c =

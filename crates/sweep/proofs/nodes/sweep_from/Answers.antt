@@ -45,9 +45,6 @@ loop-j-preserved g c =
           (row_next src.grammar wf says (g.met.F.Fits.forward c.args.spans.now) n i c.loop-j.limit c.in-Some.j (held c.loop-j.nodes) c.in-Some.ensures (v.1 n l s)),
     )
 
-pub loop-j-smaller : goal.loop-j-smaller
-loop-j-smaller g c = c.in-Some.ensures.before
-
 pub returns : goal.returns
 returns g c =
     let src = g.S.StateSource.meaning c.args.source.now in

@@ -1,6 +1,6 @@
 use Rattle.std.proofs.Common.{◌≡◌, ◌++◌, Ok, string_bytes, codes, ap, ◌∙◌, subst}
 use Rattle.std.proofs.lemmas.Result.{IfOk-weaker}
-use Rattle.inspection.specs.Lines.{refusal_line}
+use Rattle.grammar.specs.Lines.{refusal_line}
 use Rattle.words.specs.Feeds.{Handed}
 use Rattle.word_listing.specs.Lines.{word_lines}
 use Rattle.word_listing.proofs.Going.{lines_word, words_fewer, lines_end, lines_fault}

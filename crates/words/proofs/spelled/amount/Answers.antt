@@ -1,6 +1,4 @@
-use Rattle.std.proofs.Common.{get_or, ap, ◌∙◌, arith}
-use Rattle.std.specs.Str.Parse.{digits_value}
-use Rattle.std.proofs.lemmas.List.{take_all}
+use Rattle.std.proofs.Common.{get_or, arith}
 use Rattle.words.proofs.Amounts.{digit_bounds, digit_at, value_few, amount_more}
 use Rattle.words.proofs.spelled.amount.Goals as goal
 
@@ -15,6 +13,3 @@ overflow_add-amount c = omega (arith, value_few c.args.digits.now c.requires.dec
 
 pub loop-digit-preserved : goal.loop-digit-preserved
 loop-digit-preserved c = omega (arith, amount_more c.args.digits.now c.requires.decimal c.loop-digit.digit-index c.loop-digit-test.true, c.loop-digit.invariant, c.from.ensures)
-
-pub returns : goal.returns
-returns c = c.loop-digit.invariant ∙ ap (digits_value 10) (take_all c.loop-digit.digit-index c.args.digits.now c.loop-digit-test.false)

@@ -1,13 +1,13 @@
 use Rattle.std.proofs.Common.{refl}
 use Rattle.grammar.specs.Meaning.{meaning}
-use Rattle.built_states.proofs.Grammars.{right_sides}
+use Rattle.rows.proofs.Grammars.{right_sides}
 use Rattle.table_format.proofs.Counting.{set_count}
 use Rattle.built_states.proofs.Growing.{finished, not_many}
 use Rattle.built_states.proofs.built.BuiltStates.build.Goals as goal
 
 pub invariant_of-result : goal.invariant_of-result
 invariant_of-result c =
-    record { built = ∣ finished (meaning c.args.grammar.now) c.in_ok-count.field-0 (right_sides c.args.grammar.now) c.in_ok-count.ensures ∣₁ }
+    record { stepped = c.in_ok-count.ensures.stepped; built = ∣ finished (meaning c.args.grammar.now) c.in_ok-count.field-0 (right_sides c.args.grammar.now) c.in_ok-count.ensures ∣₁ }
 
 pub returns : goal.returns
 returns c =

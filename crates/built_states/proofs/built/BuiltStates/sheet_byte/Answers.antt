@@ -1,21 +1,9 @@
 use Rattle.std.proofs.Common.{◌∙◌, arith}
-use Rattle.built_states.proofs.Writing.{header_read, step_place, step_read_at, mark_cell, mark_place, mark_read_at}
+use Rattle.built_states.proofs.Writing.{header_read, step_read_at, mark_cell, mark_place, mark_read_at}
 use Rattle.built_states.proofs.built.BuiltStates.sheet_byte.Goals as goal
 
-pub bounds-self-cell : goal.bounds-self-cell
-bounds-self-cell c =
-    step_place c.args.self.now c.args.offset c.symbols-symbols.result (omega arith) (omega (arith, c.marks_at-marks.ensures.value)) c.symbols-symbols.ensures
-
-pub nonzero_div-cell : goal.nonzero_div-cell
-nonzero_div-cell c =
-    omega (
-      arith,
-      (mark_cell c.args.self.now c.args.offset c.marks_at-marks.result c.from-rules.result (omega arith) c.requires
-          c.marks_at-marks.ensures.value (c.from-rules.ensures ∙ c.rules.ensures)).column_in,
-    )
-
-pub offset_bounds-self-cell : goal.offset_bounds-self-cell
-offset_bounds-self-cell c =
+pub offset_bounds-self-cell-else-offset-marks : goal.offset_bounds-self-cell-else-offset-marks
+offset_bounds-self-cell-else-offset-marks c =
     omega (
       arith,
       mark_place c.args.self.now c.args.offset c.marks_at-marks.result c.from-rules.result (omega arith) c.requires
@@ -27,8 +15,8 @@ bounds-self-cell-else-offset-marks c =
     mark_place c.args.self.now c.args.offset c.marks_at-marks.result c.from-rules.result (omega arith) c.requires
     c.marks_at-marks.ensures.value (c.from-rules.ensures ∙ c.rules.ensures)
 
-pub nonzero_rem-cell : goal.nonzero_rem-cell
-nonzero_rem-cell c =
+pub nonzero_rem-cell-else-offset-marks : goal.nonzero_rem-cell-else-offset-marks
+nonzero_rem-cell-else-offset-marks c =
     omega (
       arith,
       (mark_cell c.args.self.now c.args.offset c.marks_at-marks.result c.from-rules.result (omega arith) c.requires
@@ -40,7 +28,9 @@ returns-then-offset-lt12 c = header_read c.args.self.now c.args.offset c.header.
 
 pub returns-then-offset-marks : goal.returns-then-offset-marks
 returns-then-offset-marks c =
-    step_read_at c.args.self.now c.args.offset c.symbols-symbols.result (omega arith) (omega (arith, c.marks_at-marks.ensures.value)) c.symbols-symbols.ensures (omega arith)
+    c.unwrap_or.ensures
+    ∙ step_read_at c.args.self.now c.args.offset c.from-symbols.result (omega arith) (omega (arith, c.marks_at-marks.ensures.value))
+    (c.from-symbols.ensures ∙ c.symbols.ensures.value)
 
 pub returns-else-offset-marks : goal.returns-else-offset-marks
 returns-else-offset-marks c =

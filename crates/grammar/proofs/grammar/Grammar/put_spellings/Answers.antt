@@ -1,36 +1,39 @@
-use Rattle.std.proofs.Common.{◌≡◌, ℕ, List, take, sym, refl, ap, ◌∙◌, subst, add-zero, arith}
+use Rattle.std.proofs.Common.{ℕ, List, length, sym, ap, ◌∙◌, subst, add-zero, arith, take_all}
 use Rattle.std.specs.List.{flat_map}
-use Rattle.grammar.specs.Holding.{spelling_at, spelling_piece}
+use Rattle.std.proofs.lemmas.List.Folds.{length-flat_map-take}
+use Rattle.grammar.specs.Holding.{spelling_piece}
 use Rattle.grammar.specs.Writing.{Put}
-use Rattle.grammar.proofs.Held.{held}
-use Rattle.grammar.proofs.Putting.{put_nothing, put_next}
-use Rattle.grammar.proofs.Pieces.{spelling_room, spellings_next, spellings_are}
+use Rattle.grammar.proofs.Putting.{put_nothing, put_next, next_size}
+use Rattle.grammar.proofs.Pieces.{spellings_are}
 use Rattle.grammar.proofs.grammar.Grammar.put_spellings.Goals as goal
 
-pub loop-t-init : goal.loop-t-init
-loop-t-init c = (put_nothing c.args.room.now c.args.start, sym (add-zero c.args.start))
+pub loop-spelling-init : goal.loop-spelling-init
+loop-spelling-init c = (put_nothing c.args.room.now c.args.start, sym (add-zero c.args.start))
 
-pub put-at-requires : goal.put-at-requires
-put-at-requires c =
-    let g = c.args.self.now in
-    record {
-      fitted = (held g).fitted c.loop-t.t (omega arith);
-      space = omega (arith, spelling_room g c.loop-t.t (omega arith), c.loop-t.invariant.1);
-    }
+pub put_spelling-at-requires : goal.put_spelling-at-requires
+put_spelling-at-requires c =
+    let ws = c.as_slice-spelling-items.result.now in
+    let i = c.loop-spelling.spelling-index in
+    let w = c.spelling-item.result in
+    let e = ap length (spellings_are c.args.self.now ∙ ap (flat_map spelling_piece) (sym c.as_slice-spelling-items.ensures)) in
+    let s = ap (λ y. length (spelling_piece y)) c.spelling-item.is in
+    omega (arith, length-flat_map-take spelling_piece ws i w c.loop-spelling-test.true, c.loop-spelling.invariant.1)
 
-pub loop-t-preserved : goal.loop-t-preserved
-loop-t-preserved c =
-    let g = c.args.self.now in
-    let inv = c.loop-t.invariant in (
-      put_next spelling_piece g.spellings c.loop-t.t _ c.args.room.now c.loop-t.room c.put-at.new.room
-          (spelling_piece (spelling_at g.spellings c.loop-t.t)) c.args.start c.loop-t.at
-          (omega (arith, c.requires)) (omega (arith, (held g).spelling_room, g.few_terminals)) inv.1 refl inv.0 c.put-at.ensures.put,
-      omega (arith, spellings_next g c.loop-t.t (omega arith), inv.1, c.put-at.ensures.next),
+pub loop-spelling-preserved : goal.loop-spelling-preserved
+loop-spelling-preserved c =
+    let ws = c.as_slice-spelling-items.result.now in
+    let i = c.loop-spelling.spelling-index in
+    let w = c.spelling-item.result in
+    let inv = c.loop-spelling.invariant in
+    let s = ap (λ y. length (spelling_piece y)) c.spelling-item.is in (
+      put_next spelling_piece ws i w c.args.room.now c.loop-spelling.room c.put_spelling-at.new.room (spelling_piece w) c.args.start c.loop-spelling.at
+          (omega (arith, c.requires)) c.loop-spelling-test.true inv.1 (ap spelling_piece c.spelling-item.is) inv.0 c.put_spelling-at.ensures.put,
+      omega (arith, next_size spelling_piece ws i w c.loop-spelling-test.true, inv.1, c.put_spelling-at.ensures.next),
     )
 
 pub returns : goal.returns
 returns c =
-    let g = c.args.self.now in
-    let e : c.loop-t.t ≡ g.terminals = omega arith in
-    subst (λ (xs : List ℕ). Put c.args.room.now c.args.start xs c.loop-t.room)
-    (ap (λ (n : ℕ). flat_map spelling_piece (take n g.spellings)) e ∙ sym (spellings_are g)) c.loop-t.invariant.0
+    let ws = c.as_slice-spelling-items.result.now in
+    subst (λ (xs : List ℕ). Put c.args.room.now c.args.start xs c.loop-spelling.room)
+    (ap (flat_map spelling_piece) (take_all c.loop-spelling.spelling-index ws (omega arith) ∙ c.as_slice-spelling-items.ensures) ∙ sym (spellings_are c.args.self.now))
+    c.loop-spelling.invariant.0

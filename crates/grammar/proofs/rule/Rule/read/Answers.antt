@@ -1,22 +1,26 @@
-use Rattle.std.proofs.Common.{◌≡◌, arith, below_more}
-use Rattle.std.proofs.lemmas.List.{length-set}
-use Rattle.grammar.proofs.Blocks.{strays, right_more, block_is, all_stand}
+use Rattle.std.proofs.Common.{◌+◌, arith}
+use Rattle.grammar.proofs.Blocks.{unknown_at, unfilled_at, well_formed, block_same}
 use Rattle.grammar.proofs.rule.Rule.read.Goals as goal
 
-pub returns-then-not-may_stand : goal.returns-then-not-may_stand
-returns-then-not-may_stand c = strays c.args.block.now c.loop-d.d (omega arith) c.if-not-may_stand.ensures
+pub returns-then-not-are_symbols : goal.returns-then-not-are_symbols
+returns-then-not-are_symbols c =
+    let (d, h, k) = c.if-not-are_symbols.ensures in
+    unknown_at c.args.block.now c.requires c.from.result c.from.ensures c.if-length-gt7.false _ _ c.split_at.ensures.front c.split_at.ensures.back
+    c.args.header.terminals (c.args.header.terminals + c.args.header.nonterminals) (d, h, omega (arith, k, c.symbols-symbols.ensures))
 
-pub loop-d-preserved : goal.loop-d-preserved
-loop-d-preserved c = (
-  simp length-set c.loop-d.invariant.0,
-  right_more c.args.block.now c.loop-d.right c.loop-d.d c.requires c.loop-d.invariant.0 (omega arith) c.loop-d.invariant.1,
-  below_more _ c.loop-d.d c.loop-d.invariant.2 c.if-not-may_stand.ensures,
-)
+pub returns-then-not-are_blank : goal.returns-then-not-are_blank
+returns-then-not-are_blank c =
+    unfilled_at c.args.block.now c.requires c.from.result c.from.ensures c.if-length-gt7.false _ _ c.split_at.ensures.front c.split_at.ensures.back
+    c.args.header.terminals (c.args.header.terminals + c.args.header.nonterminals) c.if-not-are_blank.ensures
 
 pub returns : goal.returns
 returns c =
-    let e : c.loop-d.d ≡ 7 = omega arith in (
-      block_is c.args.block.now c.loop-d.right c.requires c.loop-d.invariant.0 (rw e at c.loop-d.invariant.1),
-      all_stand c.args.block.now c.if-left-terminals.false c.if-left-symbols.false c.if-length-gt7.false
-          (λ d h. c.loop-d.invariant.2 d (omega arith)),
+    let T = c.args.header.terminals in
+    let K = c.args.header.terminals + c.args.header.nonterminals in (
+      block_same c.args.block.now c.requires c.from.result c.from.ensures c.if-length-gt7.false _ _ c.split_at.ensures.front c.split_at.ensures.back
+          T K c.if-left-header.false (omega (arith, c.symbols-symbols.ensures))
+          (λ d h. omega (arith, c.if-not-are_symbols.ensures d h, c.symbols-symbols.ensures)) c.if-not-are_blank.ensures _ c.of.ensures,
+      well_formed c.args.block.now c.requires c.from.result c.from.ensures c.if-length-gt7.false _ _ c.split_at.ensures.front c.split_at.ensures.back
+          T K c.if-left-header.false (omega (arith, c.symbols-symbols.ensures))
+          (λ d h. omega (arith, c.if-not-are_symbols.ensures d h, c.symbols-symbols.ensures)) c.if-not-are_blank.ensures,
     )

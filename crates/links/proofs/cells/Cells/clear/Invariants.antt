@@ -1,4 +1,5 @@
+use Rattle.std.proofs.Common.{length}
 use Rattle.links.proofs.cells.Cells.clear.Given as goal
 
 abbrev pub decreases-loop : goal.decreases-loop
-decreases-loop l = l.self.count
+decreases-loop l = length l.self.list.items

@@ -1,16 +1,15 @@
-use Rattle.std.proofs.Common.{ℕ, false, refl, arith}
+use Rattle.std.proofs.Common.{false, [], length, replicate, sym, refl, ap, ◌∙◌}
 use lib.ListN.{length-replicate}
+use Rattle.std.proofs.lemmas.List.{get_or-replicate}
 use Rattle.links.specs.Listing.{listed, distinct}
-use Rattle.links.proofs.Lists.{all_alike}
+use Rattle.links.proofs.Lists.{no_mark}
 use Rattle.links.proofs.cells.Cells.new.Goals as goal
 
 pub invariant_of-result : goal.invariant_of-result
 unfolding listed distinct
 invariant_of-result c = record {
-  flags = length-replicate 65536 false;
-  room = length-replicate {A = ℕ} 4097 0;
-  few = omega arith;
-  small = λ k lt. absurd (omega arith);
-  marked = λ d. all_alike 65536 d false;
-  once = refl;
+  places = refl;
+  states = λ i lt. ap length (get_or-replicate 256 i (replicate 256 false) [] lt) ∙ length-replicate 256 false;
+  marked = λ d. no_mark 256 256 d.place d.state ∙ ap (listed d) (sym c.new.ensures);
+  once = ap distinct c.new.ensures;
 }

@@ -1,5 +1,4 @@
-use Rattle.std.proofs.Common.{take, sym, subst, arith, take_all}
-use Rattle.links.specs.Holding.{Holds}
+use Rattle.std.proofs.Common.{take, arith}
 use Rattle.links.proofs.Keeps.{Held, cut_held}
 use Rattle.links.proofs.links.Links.back.Goals as goal
 
@@ -8,7 +7,3 @@ returns-then-k-self c = λ src ws h.
     let t = c.args.self.now.table in
     let r : Held src (take c.args.k ws) c.cut.new.self = cut_held ws t c.cut.new.self c.args.k (omega (arith, c.if-k-self.true)) c.cut.ensures (record { place = h.place; exact = h.exact }) in
     record { place = r.place; exact = r.exact }
-
-pub returns-else-k-self : goal.returns-else-k-self
-returns-else-k-self c = λ src ws h.
-    subst (λ v. Holds src v c.args.self.now) (sym (take_all c.args.k ws (omega (arith, c.if-k-self.false, h.place)))) h

@@ -1,20 +1,36 @@
-use Rattle.std.proofs.Common.{Some, None}
+use Rattle.std.proofs.Common.{Some}
+use Rattle.std.proofs.lemmas.Result.{err_from_is_err_and}
 use Rattle.links.proofs.Contents.{both}
-use Rattle.links.proofs.Rounds.{Along}
-use Rattle.links.proofs.Keeps.{extended, extended_stepped, extended_overfull}
+use Rattle.links.specs.Tables.{Along}
+use Rattle.links.proofs.Rounds.{along_more, along_overfull}
+use Rattle.links.proofs.Keeps.{all_stepped, extended, extended_stepped, extended_overfull}
 use Rattle.links.proofs.links.Links.extend.Goals as goal
+
+pub returns-in_err-shift_links : goal.returns-in_err-shift_links
+returns-in_err-shift_links g c =
+    let a = c.shift_first.ensures.along in
+    let e = err_from_is_err_and c.from_residual-in_err-shift_links.result c.from_residual-in_err-shift_links.ensures.1 in
+    record {
+      along = along_more a c.shift_links.ensures.along;
+      cases = rw e.1 (along_overfull a c.in_err-shift_links.ensures.cases);
+    }
 
 pub returns : goal.returns
 returns g c =
-    let src = g.S.StateSource.meaning c.args.source.now in
+    let src = g.S.StateSource.meaning c.args.word.now.over.source.now in
+    let x = c.args.word.now.x in
+    let n = c.args.word.now.over.limit in
     let t = c.args.self.now.table in
-    let u = c.shift.new.self in
+    let u = c.shift_links.new.self in
     let v = c.close.new.self.table in
-    let a : Along src (Some c.args.x) t u c.args.limit = record { kept = c.shift.ensures.kept; grown = c.shift.ensures.grown } in
-    let b : Along src None u v c.args.limit = record { kept = c.close.ensures.kept; grown = c.close.ensures.grown } in
-    let k : Along src (Some c.args.x) t v c.args.limit = extended a b in
+    let a = c.shift_first.ensures.along in
+    let b = c.shift_links.ensures.along in
+    let d = c.close.ensures.along in
+    let k : Along src (Some x) t u n = along_more a b in
+    let l : Along src (Some x) t v n = extended k d in
     record {
-      kept = k.kept;
-      grown = k.grown;
-      cases = both c.close.result c.close.ensures.cases (extended_stepped a b c.in_ok-shift.ensures.cases) (extended_overfull a);
+      along = l;
+      cases = both c.close.result c.close.ensures.cases
+          (extended_stepped k d (all_stepped c.requires a b c.in_ok-shift_first.ensures.cases c.in_ok-shift_links.ensures.cases))
+          (extended_overfull k);
     }

@@ -1,12 +1,12 @@
-use Rattle.std.proofs.Common.{sym, refl, arith, take-take}
+use Rattle.std.proofs.Common.{arith}
 use Rattle.links.proofs.Changes.{cut_within}
 use Rattle.links.proofs.table.Table.cut.Goals as goal
 
 pub invariant_of-self : goal.invariant_of-self
 invariant_of-self c =
     let t = c.args.self.now in
-    let n = c.start_of-count.result in
-    let a = c.start_of-count.ensures in
+    let n = c.end_of-count.result in
+    let a = c.end_of-count.ensures in
     let w = a.within in
     record {
       room = t.room;
@@ -19,10 +19,3 @@ invariant_of-self c =
       under = λ i k le lt. t.under i k (omega (arith, c.requires)) lt;
       over = λ i k x. t.over i k (omega (arith, c.requires, x.0), x.1, omega (arith, x.2));
     }
-
-pub returns : goal.returns
-returns c =
-    let t = c.args.self.now in
-    let n = c.start_of-count.result in
-    let a = c.start_of-count.ensures in
-    record { place = refl; start = a; front = sym (take-take n t.count t.links a.within) }

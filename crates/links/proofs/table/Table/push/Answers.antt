@@ -1,8 +1,6 @@
-use Rattle.std.proofs.Common.{◌<◌, ◌≤◌, length, refl, ◌∙◌, arith, length-set, rules}
-use Rattle.std.proofs.lemmas.List.{take_more_set}
+use Rattle.std.proofs.Common.{◌<◌, ◌≤◌, length, ◌∙◌, arith, length-set, rules}
 use Rattle.link_growth.specs.declared.Link.{Link}
 use Rattle.link_growth.specs.Entries.{lnk, Small}
-use Rattle.links.specs.Tables.{new}
 use Rattle.links.proofs.Lists.{below_set}
 use Rattle.links.proofs.Changes.{add_under, add_over}
 use Rattle.links.proofs.table.Table.push.Goals as goal
@@ -24,12 +22,4 @@ invariant_of-self c =
       within = λ i le. omega (arith, t.within i le);
       under = add_under t l room c.requires.here;
       over = add_over t l room c.requires.here;
-    }
-
-pub returns : goal.returns
-returns c =
-    let t = c.args.self.now in
-    record {
-      kept = record { place = refl; starts = refl; within = λ h. omega (arith, c.if-n-limit.false) };
-      cases = new c.requires.fresh (take_more_set t.links t.count c.args.link (omega (arith, c.if-n-limit.false, c.requires.bound, t.room)));
     }

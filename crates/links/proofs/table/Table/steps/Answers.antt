@@ -1,32 +1,26 @@
-use Rattle.std.proofs.Common.{sym, ap, ◌∙◌}
-use Rattle.std.proofs.lemmas.Bool.{true≢false, false≢true}
-use Rattle.links.proofs.Keeps.{none_steps, one_live, is_some, is_none}
+use Rattle.std.proofs.Common.{◌≡◌, is_some, sym, ap, ◌∙◌, rules}
+use Rattle.std.proofs.lemmas.Iterator.{YieldsList-from_slice}
+use Rattle.std.proofs.lemmas.Iterator.Search.{any_from_yields_List}
+use Rattle.std.specs.List.{list_any}
+use Rattle.link_growth.specs.declared.Link.{Link}
+use Rattle.links.proofs.Lists.{is_none}
+use Rattle.links.proofs.Places.{none_steps, one_steps}
 use Rattle.links.proofs.table.Table.steps.Goals as goal
 use Rattle.links.proofs.table.Table.steps.Goals.{else-self-eq0-via-then-self-eq0+else-is_some, else-self-eq0-via-else-self-eq0}
 
-pub returns-then-is_some-2 : goal.returns-then-is_some-2
-returns-then-is_some-2 g c =
-    let t = c.args.self.now in
+pub returns-clause-some : goal.returns-clause-some
+returns-clause-some g c e =
     let src = g.S.StateSource.meaning c.args.source.now in
-    record {
-      some = λ _. (
-        _,
-        one_live src t c.start_of-start.result c.loop-k.k c.start_of-start.ensures c.loop-k.auto.k c.loop-k-test.true,
-        is_some c.next-in-loop-k.result _ (sym c.if-is_some-2.ensures) c.next-in-loop-k.ensures,
-      );
-      none = λ e. absurd (true≢false e);
-    }
+    let is : c.any.result ≡ list_any (λ (l : Link). is_some (src.next l.state c.args.x)) c.of_place.result.now = any_from_yields_List (λ (l : Link). is_some (src.next l.state c.args.x)) _ _ _ c.any.ensures.ran (YieldsList-from_slice c.of_place.result.now cc) (λ x b q k. search rules) in
+    one_steps src c.args.x c.args.self.now c.of_place.ensures (sym is ∙ e)
 
-pub returns : goal.returns
-returns g c =
-    let t = c.args.self.now in
+pub returns-clause-none : goal.returns-clause-none
+returns-clause-none g c e =
     let src = g.S.StateSource.meaning c.args.source.now in
-    record {
-      some = λ e. absurd (false≢true e);
-      none = λ _. none_steps src c.args.x t c.start_of-start.result c.loop-k.k c.start_of-start.ensures c.loop-k-test.false c.loop-k.invariant
-          (λ z. elim c.else-self-eq0.branch [
-            | else-self-eq0-via-then-self-eq0+else-is_some w ↦
-                ap (λ v. src.next v c.args.x) (sym w.first.ensures) ∙ sym w.next.ensures ∙ is_none w.next.result (sym w.if-is_some.ensures)
-            | else-self-eq0-via-else-self-eq0 w ↦ absurd (w.if-self-eq0.false z)
-          ]);
-    }
+    let is : c.any.result ≡ list_any (λ (l : Link). is_some (src.next l.state c.args.x)) c.of_place.result.now = any_from_yields_List (λ (l : Link). is_some (src.next l.state c.args.x)) _ _ _ c.any.ensures.ran (YieldsList-from_slice c.of_place.result.now cc) (λ x b q k. search rules) in
+    none_steps src c.args.x c.args.self.now c.of_place.ensures (sym is ∙ e)
+    (λ z. elim c.else-self-eq0.branch [
+      | else-self-eq0-via-then-self-eq0+else-is_some w ↦
+          ap (λ v. src.next v c.args.x) (sym w.first.ensures) ∙ sym w.next.ensures ∙ is_none w.next.result (sym w.if-is_some.ensures)
+      | else-self-eq0-via-else-self-eq0 w ↦ absurd (w.if-self-eq0.false z)
+    ])

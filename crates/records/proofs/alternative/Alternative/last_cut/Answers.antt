@@ -1,22 +1,16 @@
-use Rattle.std.proofs.Common.{sym, ◌∙◌, arith}
-use Rattle.std.proofs.lemmas.List.{at_drop_more, at_drop_all}
-use Rattle.std.proofs.lemmas.Bool.Decides.{nat_tests}
-use Rattle.records.specs.Cuts.{last_used}
+use Rattle.std.proofs.Common.{rules, ap, ◌∙◌, get_or, ◌≡◌, None, take}
+use Rattle.std.specs.List.{last_or, prefix_len}
+use Rattle.std.specs.Option.{unwrap_or}
+use Rattle.std.proofs.lemmas.Iterator.{YieldsList-from_slice}
+use Rattle.std.proofs.lemmas.Iterator.Consumers.{YieldsList-from_copied}
+use Rattle.std.proofs.lemmas.Iterator.Search.{YieldsList-from_take_while}
+use Rattle.records.proofs.Uses.{is_used, last_from_yields, last_of_used}
 use Rattle.records.proofs.alternative.Alternative.last_cut.Goals as goal
 
-pub loop-cut-preserved : goal.loop-cut-preserved
-loop-cut-preserved c =
-    let e = at_drop_more (last_used c.loop-cut.last) c.args.self.now.cuts c.loop-cut.cut-index 0 (omega arith) in
-    let i = c.loop-cut.invariant in
-    grind (arith, nat_tests)
-
-pub returns-after-loop-cut : goal.returns-after-loop-cut
-returns-after-loop-cut c =
-    let e = at_drop_all (last_used c.loop-cut.last) c.args.self.now.cuts c.loop-cut.cut-index (omega arith) in
-    sym e ∙ c.loop-cut.invariant
-
-pub returns-then-cut : goal.returns-then-cut
-returns-then-cut c =
-    let e = at_drop_more (last_used c.loop-cut.last) c.args.self.now.cuts c.loop-cut.cut-index 0 (omega arith) in
-    let i = c.loop-cut.invariant in
-    grind (arith, nat_tests)
+pub returns : goal.returns
+returns c =
+    let cs = c.args.self.now.cuts in
+    let e : c.last.result ≡ last_or None (take (prefix_len is_used cs) cs) =
+    last_from_yields _ c.last.result (take (prefix_len is_used cs) cs) c.last.ensures.ran
+    (YieldsList-from_take_while _ is_used (YieldsList-from_copied (YieldsList-from_slice cs (cc))) (search rules) (search rules) (λ x b q h. search rules)) in
+    c.unwrap_or.ensures ∙ ap (λ r. unwrap_or r (get_or cs 0 0)) e ∙ last_of_used (get_or cs 0 0) cs

@@ -1,27 +1,14 @@
-use Rattle.std.proofs.Common.{◌≡◌, ◌-◌, ◌++◌, length, take, replicate, sym, ap, ◌∙◌, arith, length-set}
-use Rattle.std.proofs.lemmas.List.{take_all, length-take-le}
-use Rattle.register.proofs.Shifting.{filled_more, filled_kept}
+use Rattle.std.proofs.Common.{◌≡◌, ◌-◌, ◌++◌, length, take, replicate, ap, ◌∙◌, rules, arith}
+use Rattle.std.proofs.lemmas.List.{length-take-le}
+use Rattle.register.proofs.Shifting.{all_alike, part_replaced}
 use Rattle.register.proofs.register.Register.fill_rest.Goals as goal
 
-pub loop-k-preserved : goal.loop-k-preserved
-loop-k-preserved g c =
-    let ys = c.loop-k.self.slots.now in
-    let s = c.loop-k.invariant.0 in (
-      record { size = length-set ys c.loop-k.k c.args.x ∙ s.size; lent = s.lent },
-      c.loop-k.invariant.1,
-      filled_more ys (take c.args.self.now.count c.args.self.now.slots.now) c.loop-k.k c.args.self.now.count c.args.x
-          (let h = s.size in omega arith) c.loop-k.auto.k c.loop-k.invariant.2,
-    )
-
-pub returns : goal.returns
-returns g c =
+pub returns-clause-slots : goal.returns-clause-slots
+returns-clause-slots g c =
     let xs = c.args.self.now.slots.now in
-    let ys = c.loop-k.self.slots.now in
     let n = c.args.self.now.count in
-    let s = c.loop-k.invariant.0 in
-    let e : c.loop-k.k - n ≡ length xs - length (take n xs) = (let h = length-take-le n xs c.args.self.now.within in omega arith) in
-    record {
-      same = s;
-      kept = filled_kept xs ys c.loop-k.k n c.loop-k.self.count c.args.x c.args.self.now.within c.loop-k.auto.k c.loop-k.invariant.1 c.loop-k.invariant.2;
-      slots = sym (take_all c.loop-k.k ys (let h = s.size in omega arith)) ∙ c.loop-k.invariant.2 ∙ ap (λ m. take n xs ++ replicate m c.args.x) e;
-    }
+    let ys = c.fill_with.new.self in
+    let (last, ran) = c.fill_with.ensures.ran in
+    let e : length ys ≡ length xs - length (take n xs) = (let h = length-take-le n xs c.args.self.now.within in let l = c.fill_with.ensures.len in omega arith) in
+    part_replaced xs ys n (let l = c.fill_with.ensures.len in omega arith)
+    ∙ ap (λ zs. take n xs ++ zs) (all_alike _ c.args.x _ (λ y q r. search rules) ys last ran ∙ ap (λ m. replicate m c.args.x) e)

@@ -1,33 +1,10 @@
-use Rattle.std.proofs.Common.{◌<◌, ◌≤◌, List, length, get_or, sym, refl, ap, ◌∙◌, subst, arith}
+use Rattle.std.proofs.Common.{◌≤◌, List, length, sym, subst, arith}
 use Rattle.std.specs.Ordering.{ordering_index}
 use Rattle.std.specs.List.Sorted.{IsNonDecreasingBy}
 use Rattle.std.proofs.lemmas.List.{length-take-le}
 use Rattle.register.specs.Registers.{held, Climbs}
-use Rattle.register.proofs.Climbing.{rises_from_climbs, PartedAt, climbs_inserted, not_there}
+use Rattle.register.proofs.Climbing.{rises_from_climbs, PartedAt, climbs_inserted}
 use Rattle.register.proofs.register.Register.insert.Goals as goal
-
-pub returns-then-self : goal.returns-then-self
-returns-then-self g c =
-    let a = c.args.self.now in
-    let n = length-take-le a.count a.slots.now a.within in (
-      refl {a = c.args.self.now},
-      n ∙ c.if-self.true,
-      λ o up. not_there o (held a) c.args.x c.in-Err.place
-          (subst (λ (zs : List g.row.T.Denot). IsNonDecreasingBy (λ y. ordering_index (g.T.Ord.cmp y c.args.x)) zs → PartedAt o zs c.args.x c.in-Err.place) c.records.ensures
-          c.in-Err.ensures.position (rises_from_climbs o (held a) c.args.x up)),
-    )
-
-pub returns-in-Ok : goal.returns-in-Ok
-returns-in-Ok g c =
-    let a = c.args.self.now in
-    let k = c.in-Ok._found in (
-      refl {a = c.args.self.now},
-      (
-        k,
-        subst (λ (zs : List g.row.T.Denot). k < length zs) c.records.ensures c.in-Ok.ensures.bound,
-        λ o d. ap (λ (zs : List g.row.T.Denot). g.T.Ord.cmp (get_or zs k d) c.args.x) (sym c.records.ensures) ∙ c.in-Ok.ensures.position d,
-      ),
-    )
 
 pub returns-else-self : goal.returns-else-self
 returns-else-self g c =

@@ -8,9 +8,6 @@ use Rattle.rows.proofs.Passes.{first_turn, added_turn, idle_turn}
 use Rattle.rows.proofs.row.Row.predict.Goals as goal
 use Rattle.rows.proofs.row.Row.predict.Goals.{then-has+then-not-holds, else-has, else-has-via-then-has+else-not-holds, else-has-via-else-has}
 
-pub add-requires : goal.add-requires
-add-requires c = record { rule = omega (arith, few_rules c.args.grammar.now); dot = omega arith }
-
 pub loop-rule-init : goal.loop-rule-init
 loop-rule-init c = first_turn (meaning c.args.grammar.now) (items c.args.self.now) (member c.args.next.now) c.requires
 
@@ -41,9 +38,3 @@ loop-rule-preserved c =
             | else-has-via-else-has x ↦ inr (told_none (meaning k) v S (lhs (meaning k) q) c.loop-rule.invariant.next (ap S (sym e) ∙ sym x.if-has.ensures))
           ]))
     ]
-
-pub returns : goal.returns
-returns c =
-    let e : c.loop-rule.rule ≡ rule_count (meaning c.args.grammar.now) = omega arith in
-    let t = c.loop-rule.invariant in
-    record { next = t.next; within = t.within; led = t.led; cases = rw e at t.cases }

@@ -3,15 +3,10 @@ use Rattle.std.proofs.lemmas.Bool.{both_ways}
 use Rattle.parsing.specs.Grammar.{rhs}
 use Rattle.grammar.specs.Meaning.{meaning}
 use Rattle.rows.specs.Rows.{items}
-use Rattle.rows.proofs.Grammars.{few_rules, short, length_is, right_is, right_next}
+use Rattle.rows.proofs.Grammars.{length_is, right_is, right_next}
 use Rattle.rows.proofs.Stepping.{sweep_move, sweep_skip}
 use Rattle.rows.proofs.row.Row.sweep.Goals as goal
 use Rattle.rows.proofs.row.Row.sweep.Goals.{then-holds+then-from-symbol, else-holds, else-holds-via-then-holds+else-from-symbol, else-holds-via-else-holds}
-
-pub add-requires : goal.add-requires
-add-requires c =
-    let k = c.args.grammar.now in
-    record { rule = omega (arith, few_rules k); dot = omega (arith, length_is k c.args.rule c.requires, short k c.args.rule c.requires) }
 
 pub loop-dot-preserved : goal.loop-dot-preserved
 loop-dot-preserved c =

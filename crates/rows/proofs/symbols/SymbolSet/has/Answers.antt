@@ -1,11 +1,7 @@
-use Rattle.std.proofs.Common.{ℕ, eqb, sym, ap, ◌∙◌, arith}
+use Rattle.std.proofs.Common.{sym, ◌∙◌, arith}
 use Rattle.std.proofs.lemmas.Bool.{le-ltb}
-use Rattle.rows.proofs.Bits.{bit_test}
 use Rattle.rows.proofs.Rows.{on_past}
 use Rattle.rows.proofs.symbols.SymbolSet.has.Goals as goal
-
-pub returns-then-symbol-lt64 : goal.returns-then-symbol-lt64
-returns-then-symbol-lt64 c = ap (λ (x : ℕ). eqb x 1) (bit_test c.args.self.now.bits c.args.symbol)
 
 pub returns-else-symbol-lt64 : goal.returns-else-symbol-lt64
 returns-else-symbol-lt64 c =

@@ -1,19 +1,18 @@
-use Rattle.std.proofs.Common.{ℕ, eqb, sym, ap, ◌∙◌, arith}
-use Rattle.std.proofs.lemmas.Bool.{le-ltb}
-use Rattle.rows.proofs.Bits.{bit_test}
-use Rattle.rows.proofs.Rows.{on_past}
+use Rattle.std.proofs.Common.{ℕ, sym, ap, ◌∙◌}
+use Rattle.std.proofs.lemmas.Bool.{lt-leb}
+use Rattle.rows.specs.Rows.{member}
+use Rattle.span_table.specs.Tables.{cell}
 use Rattle.span_table.proofs.Cells.{told_here, told_back}
 use Rattle.span_table.proofs.table.SpanTableFits.fits.Goals as goal
 
-pub returns-then-to-from : goal.returns-then-to-from
-returns-then-to-from c = sym (told_back c.args.self.now.cells c.args.symbol c.args.from c.args.to c.if-to-from.true)
+pub returns-then-from-to : goal.returns-then-from-to
+returns-then-from-to c =
+    let cells = c.args.self.now.cells in
+    c.has.ensures
+    ∙ ap (λ (i : ℕ). member (cell cells i c.from-then-from-to.result) c.from-then-from-to-2.result) c.from.ensures
+    ∙ ap (λ (j : ℕ). member (cell cells c.args.from j) c.from-then-from-to-2.result) c.from-then-from-to.ensures
+    ∙ ap (λ (x : ℕ). member (cell cells c.args.from c.args.to) x) c.from-then-from-to-2.ensures
+    ∙ sym (told_here cells c.args.symbol c.args.from c.args.to c.ranges.to.fits c.if-from-to.true)
 
-pub returns-then-symbol-lt64 : goal.returns-then-symbol-lt64
-returns-then-symbol-lt64 c =
-    ap (λ (x : ℕ). eqb x 1) (bit_test _ c.args.symbol)
-    ∙ sym (told_here c.args.self.now.cells c.args.symbol c.args.from c.args.to c.ranges.to.fits c.if-to-from.false)
-
-pub returns-else-symbol-lt64 : goal.returns-else-symbol-lt64
-returns-else-symbol-lt64 c =
-    le-ltb c.args.symbol 64 c.if-symbol-lt64.false ∙ sym (on_past _ 64 c.args.symbol (omega arith) c.if-symbol-lt64.false)
-    ∙ sym (told_here c.args.self.now.cells c.args.symbol c.args.from c.args.to c.ranges.to.fits c.if-to-from.false)
+pub returns-else-from-to : goal.returns-else-from-to
+returns-else-from-to c = lt-leb c.args.from c.args.to c.if-from-to.false ∙ sym (told_back c.args.self.now.cells c.args.symbol c.args.from c.args.to c.if-from-to.false)

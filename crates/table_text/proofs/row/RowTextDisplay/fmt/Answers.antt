@@ -1,9 +1,8 @@
 use Rattle.std.proofs.Common.{true, refl, arith}
-use Rattle.parsing.specs.Grammar.{rule_count}
 use Rattle.grammar.specs.Meaning.{sheet}
 use Rattle.rows.specs.Rows.{items}
 use Rattle.table_text.specs.Items.{rule_items}
-use Rattle.table_text.proofs.Joining.{each_none, each_more, each_all}
+use Rattle.inspection.proofs.Joining.{each_none, each_more}
 use Rattle.table_text.proofs.row.RowTextDisplay.fmt.Goals as goal
 
 pub loop-rule-init : goal.loop-rule-init
@@ -17,10 +16,3 @@ loop-rule-preserved g c = λ plain.
     let before = c.loop-rule.invariant plain in
     each_more g.W.Write.write_str_gives (rule_items (sheet x.grammar.now) (items x.row.now)) 0 c.args.f.now c.loop-rule.f
     c.write.new.self c.loop-rule.rule (omega arith) before (c.in_ok-write.ensures.writes before.plain (refl {a = true}))
-
-pub returns-clause-writes : goal.returns-clause-writes
-returns-clause-writes g c = λ plain ok.
-    let x = c.args.self.now in
-    let s = sheet x.grammar.now in
-    each_all g.W.Write.write_str_gives (rule_items s (items x.row.now)) 0 c.args.f.now c.loop-rule.f c.loop-rule.rule
-    (rule_count s.grammar) (omega arith) (c.loop-rule.invariant plain)

@@ -3,7 +3,7 @@ use Rattle.std.specs.Fmt.{IsPlainFormatter, HasWritten}
 use Rattle.grammar.specs.Meaning.{sheet}
 use Rattle.rows.specs.Rows.{items}
 use Rattle.table_text.specs.Items.{rule_items}
-use Rattle.table_text.specs.Pieces.{each}
+use Rattle.inspection.specs.Pieces.{each}
 use Rattle.table_text.proofs.row.RowTextDisplay.fmt.Given as goal
 
 -- The items of the rules so far were written.

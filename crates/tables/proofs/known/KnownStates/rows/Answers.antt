@@ -1,15 +1,26 @@
-use Rattle.std.proofs.Common.{refl, ◌∙◌, arith}
+use Rattle.std.proofs.Common.{◌<◌, length, ◌∙◌, ap, arith}
 use Rattle.std.proofs.lemmas.List.{length-set}
 use Rattle.tables.specs.Lists.{listed}
-use Rattle.tables.proofs.Lists.{rows_more}
+use Rattle.tables.proofs.Lists.{len_is, state_read, row_read, rows_more, state_below}
 use Rattle.tables.proofs.known.KnownStates.rows.Goals as goal
 
-pub loop-place-init : goal.loop-place-init
-loop-place-init c = (refl, λ j h. absurd (omega arith))
+pub bounds-rows-from : goal.bounds-rows-from
+bounds-rows-from c =
+    let ks = c.args.self.now in
+    let here : c.loop-known.known-index < length (listed ks) = omega (arith, len_is ks, ap length c.deref-known-items.ensures.0) in
+    let e = rw c.deref-known-items.ensures.0 at c.from.ensures in
+    state_below (listed ks) c.requires c.loop-known.known-index c.from.result here (e ∙ state_read ks c.loop-known.known-index here _)
 
-pub loop-place-preserved : goal.loop-place-preserved
-loop-place-preserved c = (
-  length-set c.loop-place.rows c.from.result c.row.result ∙ c.loop-place.invariant.0,
-  rows_more (listed c.args.self.now) c.loop-place.rows c.loop-place.place c.from.result c.row.result c.requires
-      c.loop-place.invariant.0 (omega arith) (c.from.ensures ∙ c.state.ensures) c.row.ensures c.loop-place.invariant.1,
-)
+pub loop-known-preserved : goal.loop-known-preserved
+loop-known-preserved c =
+    let ks = c.args.self.now in
+    let here : c.loop-known.known-index < length (listed ks) = omega (arith, len_is ks, ap length c.deref-known-items.ensures.0) in
+    let e = rw c.deref-known-items.ensures.0 at c.from.ensures in
+    rw c.deref-known-items.ensures.0 (
+      length-set c.loop-known.rows c.from.result _ ∙ c.loop-known.invariant.0,
+      rows_more (listed ks) c.loop-known.rows c.loop-known.known-index c.from.result _ c.requires c.loop-known.invariant.0 here
+          (e ∙ state_read ks c.loop-known.known-index here _) (row_read ks c.loop-known.known-index here _) c.loop-known.invariant.1,
+    )
+
+pub returns : goal.returns
+returns c = λ j h. c.loop-known.invariant.1 j (omega (arith, len_is c.args.self.now, ap length c.deref-known-items.ensures.0))

@@ -2,22 +2,9 @@ use Rattle.std.proofs.Common.{◌-◌, ◌<◌, length, take, drop, sym, subst, 
 use Rattle.grammar.specs.Meaning.{sheet}
 use Rattle.words.specs.Feeds.{Handed}
 use Rattle.words.specs.Meanings.{text_feed_coming}
-use Rattle.words.proofs.Running.{first_run_some, runs_first}
-use Rattle.words.proofs.Texting.{err_is, text_end, text_word, text_fault}
+use Rattle.words.proofs.Running.{runs_first}
+use Rattle.words.proofs.Texting.{err_is, text_word, text_fault}
 use Rattle.words.proofs.texts.TextFeedWordFeed.next_word.Goals as goal
-
-pub returns-then-from-self : goal.returns-then-from-self
-returns-then-from-self c =
-    let f = c.args.self.now in
-    text_end (sheet f.grammar.now) f.text.now f.place c.run_start-from.result c.run_start-from.ensures.same (omega arith)
-
-pub read_run-requires : goal.read_run-requires
-read_run-requires c =
-    let xs = c.args.self.now.text.now in
-    let i = c.run_start-from.result in
-    let h : i < length xs = omega (arith, c.run_start-from.ensures.within) in
-    let b = c.run_start-from.ensures.begins h in
-    record { nonempty = omega (arith, first_run_some xs i h b.0 b.1, c.run_end-to.ensures.value); within = c.run_end-to.ensures.within }
 
 pub returns-in_err-word : goal.returns-in_err-word
 returns-in_err-word c =

@@ -1,0 +1,59 @@
+//! Reading the header of a grammar sheet.
+ghost use Rattle.std.specs.Prelude.{◌≡◌, ◌+◌, ◌≤◌, MatchResult};
+ghost use Rattle.grammar.specs.Heads.{Outside, Headed};
+ghost use Rattle.grammar.specs.Refusals.{FirstFault};
+
+use crate::fault::GrammarFault;
+use crate::header::Header;
+use sheet_head::read_head;
+
+/// A count, which lies in its range.
+fn count(number: u16, low: u8, high: u8) -> Result<u8, GrammarFault>
+    ensures { MatchResult result (λ n. (n ≡ number) × (low ≤ n) × (n ≤ high)) (λ e. (e ≡ GrammarFault.CountRange) × Outside number low high) }
+{
+    match u8::try_from(number) {
+        Ok(n) if n >= low && n <= high => Ok(n),
+        _ => Err(GrammarFault::CountRange),
+    }
+}
+
+impl Header {
+    /// The counts that the sheet tells, or what is wrong with its header.
+    pub(crate) fn read(sheet: &[u8]) -> Result<Header, GrammarFault>
+        ensures { MatchResult result (λ h. Headed sheet.now h) (λ e. FirstFault sheet.now e) }
+    {
+        let Some(head) = read_head(sheet) else {
+            return Err(GrammarFault::WholeLength);
+        };
+        let [
+            length,
+            terminals,
+            nonterminals,
+            rules,
+            rules_at,
+            spellings_at,
+        ] = head;
+        if usize::from(length) != sheet.len() {
+            return Err(GrammarFault::WholeLength);
+        }
+        let terminals = count(terminals, 1, 40)?;
+        let nonterminals = count(nonterminals, 2, 24)?;
+        let rules = count(rules, 2, 64)?;
+        let end = 12 + 9 * u16::from(rules);
+        if rules_at != 12 || spellings_at != end || length < end {
+            return Err(GrammarFault::Offset);
+        }
+        Ok(Header {
+            terminals,
+            nonterminals,
+            rules,
+        })
+    }
+
+    /// How many symbols there are.
+    pub(crate) fn symbols(self) -> u8
+        ensures { result ≡ self.terminals + self.nonterminals }
+    {
+        self.terminals + self.nonterminals
+    }
+}

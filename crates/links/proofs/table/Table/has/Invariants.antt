@@ -1,6 +1,0 @@
-use Rattle.std.proofs.Common.{◌≡◌, ℕ, ◌<◌, ◌≤◌}
-use Rattle.link_growth.specs.Entries.{at}
-use Rattle.links.proofs.table.Table.has.Given as goal
-
-abbrev pub invariant-loop-k : goal.invariant-loop-k
-invariant-loop-k l = (h : ℕ) → l.start ≤ h → h < l.k → at l.self.links h ≡ l.link → ⊥

@@ -1,0 +1,144 @@
+use Rattle.std.proofs.Common.{◌≤◌, ◌≡◌, ◌+◌, ◌<◌, true, [], length, get_or, set, sym, ◌∙◌, subst, true≢false, arith}
+use Rattle.std.proofs.lemmas.Result.{err_from_is_err_and}
+use Rattle.parsing.specs.Grammar.{rhs}
+use Rattle.register.specs.declared.register.Register.{Register}
+use Rattle.register.specs.Registers.{Grew}
+use Rattle.register.proofs.Growing.{Upto, keyed_all, filled_short, grew_as, lacks_as, grew_put, lacks_put, keyed_taken, keyed_passed, keyed_short}
+use Rattle.records.specs.declared.alternative.Alternative.{Alternative}
+use Rattle.records.specs.Orders.{by_alternative}
+use Rattle.records.proofs.Faith.{alternative_faithful}
+use Rattle.parts.specs.Parts.{Extends}
+use Rattle.parts.proofs.Visits.{ended, end_only, shorter, longer, no_next}
+use Rattle.parts.proofs.Rows.{here, not_here}
+use Rattle.parts.proofs.over.RuleOver.+visit.Goals as goal
+use Rattle.parts.proofs.over.RuleOver.+visit.Goals.{then-rows-p+then-fits+in_ok-visit, else-rows-p, else-rows-p-via-then-rows-p+else-fits, else-rows-p-via-else-rows-p}
+
+pub returns-in_err-_new : goal.returns-in_err-_new
+returns-in_err-_new g t c =
+    let gr = (g.S.StateSource.meaning c.args.self.now.source.now).grammar in
+    let says = g.F.Fits.says c.args.self.now.spans.now in
+    let long : length c.args.cuts ≡ 8 = omega arith in
+    let q : c.args.p ≡ length (rhs gr c.args.self.now.rule) = c.if-p-parts.true ∙ c.parts.ensures.parts in
+    let x : Alternative = record { rule = c.args.self.now.rule; cuts = c.args.cuts } in
+    let P : Alternative → Type 0 = Extends gr says c.args.rows.now c.args.self.now.rule c.args.self.now.j c.args.p c.args.cuts in
+    let b = err_from_is_err_and c.from_residual.result c.from_residual.ensures.1 in
+    filled_short by_alternative P c.args.alternatives.now c.insert.new.self c.from_residual.result b.0 b.1
+    (lacks_as by_alternative (λ z. z ≡ x) P c.args.alternatives.now c.insert.new.self
+    (ended gr says c.args.rows.now c.args.self.now.rule c.args.self.now.j c.args.p c.args.cuts q long c.requires.unused)
+    (lacks_put by_alternative c.args.alternatives.now c.insert.new.self x b.0 c.in_err-_new.ensures))
+
+pub returns-then-p-parts : goal.returns-then-p-parts
+returns-then-p-parts g t c =
+    let gr = (g.S.StateSource.meaning c.args.self.now.source.now).grammar in
+    let says = g.F.Fits.says c.args.self.now.spans.now in
+    let long : length c.args.cuts ≡ 8 = omega arith in
+    let q : c.args.p ≡ length (rhs gr c.args.self.now.rule) = c.if-p-parts.true ∙ c.parts.ensures.parts in
+    let x : Alternative = record { rule = c.args.self.now.rule; cuts = c.args.cuts } in
+    let P : Alternative → Type 0 = Extends gr says c.args.rows.now c.args.self.now.rule c.args.self.now.j c.args.p c.args.cuts in
+    grew_as by_alternative (λ z. z ≡ x) P c.args.alternatives.now c.insert.new.self
+    (ended gr says c.args.rows.now c.args.self.now.rule c.args.self.now.j c.args.p c.args.cuts q long c.requires.unused)
+    (end_only gr says c.args.rows.now c.args.self.now.rule c.args.self.now.j c.args.p c.args.cuts q long c.requires.unused)
+    (grew_put by_alternative alternative_faithful c.args.alternatives.now c.insert.new.self x c.in_ok-_new._new c.in_ok-_new.ensures)
+
+pub returns-in_err-visit : goal.returns-in_err-visit
+returns-in_err-visit g t c =
+    let gr = (g.S.StateSource.meaning c.args.self.now.source.now).grammar in
+    let says = g.F.Fits.says c.args.self.now.spans.now in
+    let r = c.args.self.now.rule in
+    let p = c.args.p in
+    let ks = c.args.cuts in
+    let rows = c.args.rows.now in
+    let j = c.args.self.now.j in
+    let k = c.loop-c.c in
+    let short : length (rhs (g.S.StateSource.meaning c.args.self.now.source.now).grammar c.args.self.now.rule) ≤ 7 = (let e = c.parts.ensures.parts in let f = c.parts.ensures.few in omega arith) in
+    let e = c.parts.ensures.parts in
+    let pm : p < length (rhs gr r) = (let l = c.requires.part in let n = c.if-p-parts.false in omega arith) in
+    let long : length c.args.cuts ≡ 8 = omega arith in
+    let x : c.part-x.result ≡ get_or (rhs gr r) p 0 = c.part-x.ensures in
+    let S : Alternative → Type 0 = Extends gr says rows r j p ks in
+    let Q : Alternative → Type 0 = Extends gr says rows r j (p + 1) (set ks (p + 1) k) in
+    let b = err_from_is_err_and c.from_residual-in_err-visit.result c.from_residual-in_err-visit.ensures.1 in
+    let h : says (get_or (rhs gr r) p 0) (get_or ks p 0) k ≡ true = subst (λ y. says y (get_or ks p 0) k ≡ true) x (sym c.fits.ensures ∙ c.if-fits.true) in
+    filled_short by_alternative S c.args.alternatives.now c.visit.new.alternatives c.from_residual-in_err-visit.result b.0 b.1
+    (keyed_short by_alternative S (λ (z : Alternative). get_or z.cuts (p + 1) 0) Q c.args.alternatives.now c.loop-c.alternatives c.visit.new.alternatives k
+    (λ z w. (shorter gr says rows r j p ks long pm short k (omega arith) (here (get_or rows (p + 1) []) _ k c.from.ensures c.if-rows-p.true) h z w).0)
+    c.loop-c.invariant c.in_err-visit.ensures)
+
+pub loop-c-preserved : goal.loop-c-preserved
+loop-c-preserved g t c =
+    let gr = (g.S.StateSource.meaning c.args.self.now.source.now).grammar in
+    let says = g.F.Fits.says c.args.self.now.spans.now in
+    let r = c.args.self.now.rule in
+    let p = c.args.p in
+    let ks = c.args.cuts in
+    let rows = c.args.rows.now in
+    let j = c.args.self.now.j in
+    let k = c.loop-c.c in
+    let short : length (rhs (g.S.StateSource.meaning c.args.self.now.source.now).grammar c.args.self.now.rule) ≤ 7 = (let e = c.parts.ensures.parts in let f = c.parts.ensures.few in omega arith) in
+    let e = c.parts.ensures.parts in
+    let pm : p < length (rhs gr r) = (let l = c.requires.part in let n = c.if-p-parts.false in omega arith) in
+    let long : length c.args.cuts ≡ 8 = omega arith in
+    let x : c.part-x.result ≡ get_or (rhs gr r) p 0 = c.part-x.ensures in
+    let S : Alternative → Type 0 = Extends gr says rows r j p ks in
+    let Q : Alternative → Type 0 = Extends gr says rows r j (p + 1) (set ks (p + 1) k) in
+    let G : Register Alternative → Type 0 = λ alternatives.
+    Grew by_alternative (Upto by_alternative S (λ (z : Alternative). get_or z.cuts (p + 1) 0) (k + 1)) c.args.alternatives.now alternatives in
+    elim c.if-rows-p.branch [
+      | then-rows-p+then-fits+in_ok-visit w ↦
+          let h : says (get_or (rhs gr r) p 0) (get_or ks p 0) k ≡ true = subst (λ y. says y (get_or ks p 0) k ≡ true) x (sym w.fits.ensures ∙ w.if-fits.true) in
+          subst G (sym w.alternatives-is)
+          (keyed_taken by_alternative S (λ (z : Alternative). get_or z.cuts (p + 1) 0) Q c.args.alternatives.now c.loop-c.alternatives w.visit.new.alternatives k
+          (shorter gr says rows r j p ks long pm short k (omega arith) (here (get_or rows (p + 1) []) _ k c.from.ensures w.if-rows-p.true) h)
+          (longer gr says rows r j p ks long pm short k)
+          c.loop-c.invariant w.in_ok-visit.ensures)
+      | else-rows-p w ↦ subst G (sym w.alternatives-is)
+          (keyed_passed by_alternative S (λ (z : Alternative). get_or z.cuts (p + 1) 0) c.args.alternatives.now c.loop-c.alternatives k
+          (no_next gr says rows r j p ks long pm short k
+          (λ mk f. elim w.else-rows-p.branch [
+            | else-rows-p-via-then-rows-p+else-fits v ↦
+                true≢false (sym (subst (λ y. says y (get_or ks p 0) k ≡ true) (sym x) f) ∙ sym v.fits.ensures ∙ v.if-fits.false)
+            | else-rows-p-via-else-rows-p v ↦ not_here (get_or rows (p + 1) []) _ k c.from.ensures v.if-rows-p.false mk
+          ]))
+          c.loop-c.invariant)
+    ]
+
+pub returns-after-rows-p : goal.returns-after-rows-p
+returns-after-rows-p g t c =
+    let gr = (g.S.StateSource.meaning c.args.self.now.source.now).grammar in
+    let says = g.F.Fits.says c.args.self.now.spans.now in
+    let r = c.args.self.now.rule in
+    let p = c.args.p in
+    let ks = c.args.cuts in
+    let rows = c.args.rows.now in
+    let j = c.args.self.now.j in
+    let k = c.loop-c.c in
+    let short : length (rhs (g.S.StateSource.meaning c.args.self.now.source.now).grammar c.args.self.now.rule) ≤ 7 = (let e = c.parts.ensures.parts in let f = c.parts.ensures.few in omega arith) in
+    let e = c.parts.ensures.parts in
+    let pm : p < length (rhs gr r) = (let l = c.requires.part in let n = c.if-p-parts.false in omega arith) in
+    let long : length c.args.cuts ≡ 8 = omega arith in
+    let x : c.part-x.result ≡ get_or (rhs gr r) p 0 = c.part-x.ensures in
+    let S : Alternative → Type 0 = Extends gr says rows r j p ks in
+    let Q : Alternative → Type 0 = Extends gr says rows r j (p + 1) (set ks (p + 1) k) in
+    let G : Register Alternative → Type 0 = λ alternatives.
+    Grew by_alternative (Upto by_alternative S (λ (z : Alternative). get_or z.cuts (p + 1) 0) (k + 1)) c.args.alternatives.now alternatives in
+    let turn : G c.if-rows-p.alternatives =
+    elim c.if-rows-p.branch [
+      | then-rows-p+then-fits+in_ok-visit w ↦
+          let h : says (get_or (rhs gr r) p 0) (get_or ks p 0) k ≡ true = subst (λ y. says y (get_or ks p 0) k ≡ true) x (sym w.fits.ensures ∙ w.if-fits.true) in
+          subst G (sym w.alternatives-is)
+          (keyed_taken by_alternative S (λ (z : Alternative). get_or z.cuts (p + 1) 0) Q c.args.alternatives.now c.loop-c.alternatives w.visit.new.alternatives k
+          (shorter gr says rows r j p ks long pm short k (omega arith) (here (get_or rows (p + 1) []) _ k c.from.ensures w.if-rows-p.true) h)
+          (longer gr says rows r j p ks long pm short k)
+          c.loop-c.invariant w.in_ok-visit.ensures)
+      | else-rows-p w ↦ subst G (sym w.alternatives-is)
+          (keyed_passed by_alternative S (λ (z : Alternative). get_or z.cuts (p + 1) 0) c.args.alternatives.now c.loop-c.alternatives k
+          (no_next gr says rows r j p ks long pm short k
+          (λ mk f. elim w.else-rows-p.branch [
+            | else-rows-p-via-then-rows-p+else-fits v ↦
+                true≢false (sym (subst (λ y. says y (get_or ks p 0) k ≡ true) (sym x) f) ∙ sym v.fits.ensures ∙ v.if-fits.false)
+            | else-rows-p-via-else-rows-p v ↦ not_here (get_or rows (p + 1) []) _ k c.from.ensures v.if-rows-p.false mk
+          ]))
+          c.loop-c.invariant)
+    ] in
+    keyed_all by_alternative S (λ (z : Alternative). get_or z.cuts (p + 1) 0) c.args.alternatives.now c.if-rows-p.alternatives (k + 1)
+    (λ z w. let l = w.within (p + 1) (omega arith) (omega arith) in omega arith) turn
