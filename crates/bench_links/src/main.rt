@@ -20,17 +20,20 @@ fn take_all(states: &BuiltStates, words: &[u8]) -> Links {
     links
 }
 
+/// The links of the words over the sheet, or why there are none.
+fn links_of(sheet: &[u8], words: &[u8]) -> Result<Links, &'static str> {
+    let grammar = Grammar::read(sheet).map_err(|_| "no grammar")?;
+    let states = BuiltStates::build(&grammar).map_err(|_| "too many states")?;
+    Ok(take_all(&states, words))
+}
+
 fn run(rt: &HostRuntime) -> io::Result<()> {
     let sheet = fs::read(rt, "grammar.bin")?;
     let words = fs::read(rt, "words.bin")?;
-    let Ok(grammar) = Grammar::read(sheet.as_slice()) else {
-        return println!(rt; "no grammar");
-    };
-    let Ok(states) = BuiltStates::build(&grammar) else {
-        return println!(rt; "too many states");
-    };
-    let links = take_all(&states, words.as_slice());
-    println!(rt; "words {} links {}", links.words(), links.count())
+    match links_of(sheet.as_slice(), words.as_slice()) {
+        Ok(links) => println!(rt; "words {} links {}", links.words(), links.count()),
+        Err(why) => println!(rt; "{why}"),
+    }
 }
 
 fn main(rt: HostRuntime) -> io::Result<()> {

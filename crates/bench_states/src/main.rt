@@ -34,48 +34,43 @@ impl FromStr for Step {
 
 /// The step that the first argument names; without one, the last.
 fn last_step(rt: &HostRuntime) -> anyhow::Result<Step> {
-    match env::args(rt)?.nth(1) {
-        Some(word) => word.as_str().parse(),
-        None => Ok(Step::Check),
-    }
+    env::args(rt)?
+        .nth(1)
+        .map_or(Ok(Step::Check), |word| word.as_str().parse())
 }
 
-/// The first of these steps is done already.
-// By hand: each step works on what the one before it made, so no step can be called without those before it.
+// An enum and not closures: each step works on what the one before it made.
+/// The steps up to the last wanted; the grammar is read already.
 fn run(rt: &HostRuntime, grammar: &Grammar, last: Step) -> anyhow::Result<()> {
     let rules = grammar.rules();
     println!(rt; "rules {rules}")?;
     if last == Step::Read {
         return Ok(());
     }
-    let Ok(built) = BuiltStates::build(grammar) else {
-        return Err(anyhow!("too many states"));
-    };
+    let built = BuiltStates::build(grammar).map_err(|_| anyhow!("too many states"))?;
     let states = built.states();
     println!(rt; "states {states}")?;
     if last == Step::Build {
         return Ok(());
     }
     let mut room = [0; 32652];
-    let Ok(length) = built.write(&mut room) else {
-        return Err(anyhow!("the sheet is too long"));
-    };
+    let length = built
+        .write(&mut room)
+        .map_err(|_| anyhow!("the sheet is too long"))?;
     println!(rt; "bytes {length}")?;
     if last == Step::Write {
         return Ok(());
     }
-    match Table::check(grammar, &room[0..length.min(32652)]) {
-        Ok(table) => println!(rt; "passes with states {}", table.states())?,
-        Err(_) => return Err(anyhow!("the sheet does not pass")),
-    }
+    let table = Table::check(grammar, &room[..length]).map_err(|_| anyhow!(
+        "the sheet does not pass"
+    ))?;
+    println!(rt; "passes with states {}", table.states())?;
     Ok(())
 }
 
 fn main(rt: HostRuntime) -> anyhow::Result<()> {
     let last = last_step(&rt)?;
     let sheet = fs::read(&rt, "grammar.bin")?;
-    let Ok(grammar) = Grammar::read(sheet.as_slice()) else {
-        return Err(anyhow!("grammar.bin is refused"));
-    };
+    let grammar = Grammar::read(sheet.as_slice()).map_err(|_| anyhow!("grammar.bin is refused"))?;
     run(&rt, &grammar, last)
 }

@@ -1,10 +1,10 @@
 -- How the walk over a table goes on while the table is built.
-use Rattle.std.proofs.Common.{◌≡◌, ℕ, zero, suc, ◌+◌, ◌<◌, ◌≤◌, ◌≢◌, List, [], ◌∷◌, ◌++◌, length, Some, None, Option, get_or, set, replicate, sym, refl, ap, ◌∙◌, subst, subst₂, ap₂, inl, inr, arith}
+use Rattle.std.proofs.Common.{◌≡◌, ℕ, zero, suc, ◌+◌, ◌<◌, ◌≤◌, ◌≢◌, ◌⊎◌, List, [], ◌∷◌, ◌++◌, length, Some, None, Option, get_or, set, replicate, sym, refl, ap, ◌∙◌, subst, subst₂, ap₂, inl, inr, arith}
 use mathlib.Core.Path.{subst₃}
 use mathlib.Core.HLevel.{⊥_prop}
 use mathlib.Core.Logic.{∥∥₁_elim}
 use Rattle.std.proofs.lemmas.Bool.{cases_eq, cases_lt}
-use Rattle.std.proofs.lemmas.List.{length-replicate, length-set, get_or-set_same, get_or-set_other, get_or-replicate, get_or_past}
+use Rattle.std.proofs.lemmas.List.{length-replicate, length-set, get_or-set_same, get_or-set_other, get_or-replicate, get_or_past, set-get_or}
 use Rattle.parsing.specs.Grammar.{Grammar, rule_count}
 use Rattle.grammar_format.specs.Fields.{listed}
 use Rattle.grammar_format.proofs.Listed.{length_listed, getD_listed, listed_same, listed_more}
@@ -111,6 +111,7 @@ begun g w f =
         symbols = λ s h. ap length (get_or-replicate 255 s no_row [] h) ∙ length-replicate {A = Option ℕ} 64 None;
       };
       stepped = λ s X t e. absurd (no_step_leads (entry (replicate 255 no_row) s X) t (no_steps s X) e);
+      untried = λ s Y h. no_steps s Y;
       walked = begin f;
     }
 
@@ -185,6 +186,11 @@ module _ (g : Grammar) (n : ℕ) (ws : List Row) (ss : List (List (Option ℕ)))
         | inr d ↦ omega (arith, come.stepped s Y t (sym (entry_other ss come.step_room i X v state_in symbol_in s Y (λ r. absurd (d r))) ∙ e))
       ]
 
+  -- The steps behind it are as they were.
+  untried_on : (s Y : ℕ) → (i < s) ⊎ ((i ≡ s) × (X + 1 ≤ Y)) → entry (put ss i X v) s Y ≡ None
+  untried_on s Y (inl l) = entry_other ss come.step_room i X v state_in symbol_in s Y (λ p q. omega arith) ∙ come.untried s Y (inl l)
+  untried_on s Y (inr (e, l)) = entry_other ss come.step_room i X v state_in symbol_in s Y (λ p q. omega arith) ∙ come.untried s Y (inr (e, omega arith))
+
   pub goes_on : n ≤ m → m ≤ 255 → length vs ≡ 256 → ((t : ℕ) → v ≡ Some t → t < m)
       → Walked g (built_table g m vs (put ss i X v)) (known_rows m vs) i (X + 1) 0
       → Come g (record { count = m; rows = vs; steps = put ss i X v }) i (X + 1)
@@ -195,6 +201,7 @@ module _ (g : Grammar) (n : ℕ) (ws : List Row) (ss : List (List (Option ℕ)))
         row_room = r;
         step_room = roomy_put ss come.step_room i X v state_in symbol_in;
         stepped = stepped_on l e;
+        untried = untried_on;
         walked = w;
       }
 
@@ -204,10 +211,16 @@ some_below {j} {t} {n} h e = let d : j ≡ t = cc in omega arith
 -- What a try comes to: no step, a step to a known state, or a step to a new one.
 module _ (g : Grammar) (n : ℕ) (ws : List Row) (ss : List (List (Option ℕ))) (i X : ℕ) (come : Come g (record { count = n; rows = ws; steps = ss }) i X)
     (inside : i < n) (symbol : X < symbols g) (few : symbols g ≤ 64) where
-  pub tried_none : NoStep g (row_items ws i) X → Come g (record { count = n; rows = ws; steps = put ss i X None }) i (X + 1)
+  pub tried_none : NoStep g (row_items ws i) X → Come g (record { count = n; rows = ws; steps = ss }) i (X + 1)
   tried_none f =
-      goes_on g n ws ss i X come inside symbol few n ws None (λ k h. refl) (omega arith) come.few come.row_room (λ t e. cc)
-      (at_none (here g n ws ss i X come inside symbol few n ws None (λ k h. refl)) f refl)
+      subst (λ (ts : List (List (Option ℕ))). Come g (record { count = n; rows = ws; steps = ts }) i (X + 1)) stays
+      (goes_on g n ws ss i X come inside symbol few n ws None (λ k h. refl) (omega arith) come.few come.row_room (λ t e. cc)
+      (at_none (here g n ws ss i X come inside symbol few n ws None (λ k h. refl)) f refl))
+    where
+      stays : put ss i X None ≡ ss
+      stays =
+          ap (λ (o : Option ℕ). put ss i X o) (sym (come.untried i X (inr (refl, omega arith))))
+          ∙ ap (λ (xs : List (Option ℕ)). set ss i xs) (set-get_or (get_or ss i []) X None) ∙ set-get_or ss i []
 
   module _ (vs : List Row) (room : length vs ≡ 256) (same : (k : ℕ) → k < n → row_items vs k ≡ row_items ws k)
       (st : StepTo g (row_items vs i) X (row_items vs n)) where
@@ -324,6 +337,7 @@ expanded g b i X c e h =
       row_room = c.row_room;
       step_room = c.step_room;
       stepped = c.stepped;
+      untried = λ s Y h. c.untried s Y (inl (elim h [ inl l ↦ omega arith | inr l ↦ omega (arith, l.0) ]));
       walked = (at_turn (marks (rule_count g) (omega arith)) refl (omega (arith, known_length b.count b.rows))).0;
     }
   where

@@ -2,15 +2,15 @@
 --   Roomy ss               there is room for the steps of every state by every symbol
 --   table_so_far g b       the table that b has come to
 --   CompletedAt g b k w c  the table c is b with the completed kernel w in the place k, all else as it was
---   Come g b i X           the walk over the table b comes to the symbol X of the state i
-use Rattle.std.specs.Prelude.{◌≡◌, ℕ, ◌<◌, ◌≤◌, true, ◌≢◌, List, [], Option, length, slice_index_or}
+--   Come g b i X           the walk over the table b comes to the symbol X of the state i, and the steps from there on are none yet
+use Rattle.std.specs.Prelude.{◌≡◌, ℕ, ◌<◌, ◌≤◌, ◌⊎◌, true, ◌≢◌, List, [], None, Option, length, slice_index_or}
 use Rattle.parsing.specs.Grammar.{Grammar}
 use Rattle.table_format.specs.ItemSets.{Completed}
 use Rattle.table_format.specs.Tables.{Table}
 use Rattle.table_format.specs.Walks.{Walked}
 use Rattle.rows.specs.declared.row.Row.{Row}
 use Rattle.rows.specs.Rows.{items}
-use Rattle.built_states.specs.Built.{row_items, built_table, known_rows, Stepped}
+use Rattle.built_states.specs.Built.{row_items, entry, built_table, known_rows, Stepped}
 use Rattle.built_states.specs.declared.building.Building.{Building}
 
 -- The rows of 255 states, with room for 64 symbols in each.
@@ -34,4 +34,5 @@ pub record Come (g : Grammar) (b : Building) (i X : ℕ) : Type 0 where
   pub row_room : length b.rows ≡ 256
   pub step_room : Roomy b.steps
   pub stepped : Stepped b.count b.steps
+  pub untried : (s Y : ℕ) → (i < s) ⊎ ((i ≡ s) × (X ≤ Y)) → entry b.steps s Y ≡ None
   pub walked : Walked g (table_so_far g b) (known_rows b.count b.rows) i X 0

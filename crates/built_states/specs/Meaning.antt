@@ -11,21 +11,21 @@ use Rattle.built_states.specs.Built.{row_items, built_table, Built, Many}
 use Rattle.built_states.specs.declared.built.BuiltStates.{BuiltStates}
 
 abbrev pub table : BuiltStates → Table
-table b = built_table (meaning b.grammar) b.count b.rows b.steps
+table b = built_table (meaning b.grammar) b.building.count b.building.rows b.building.steps
 
 abbrev pub source : BuiltStates → Source
 source b =
     record {
       grammar = meaning b.grammar;
-      states = b.count;
+      states = b.building.count;
       first = 0;
-      next = (source_of (meaning b.grammar) (table b) (row_items b.rows)).next;
-      has = row_items b.rows;
-      done = (source_of (meaning b.grammar) (table b) (row_items b.rows)).done;
+      next = (source_of (meaning b.grammar) (table b) (row_items b.building.rows)).next;
+      has = row_items b.building.rows;
+      done = (source_of (meaning b.grammar) (table b) (row_items b.building.rows)).done;
     }
 
 pub record Builds (g : Grammar) (b : BuiltStates) : Type 0 where
   pub over_grammar : b.grammar ≡ g
-  pub built : Built (meaning g) b.count b.rows b.steps
-  pub counted : SetCount (meaning g) b.count
+  pub built : Built (meaning g) b.building.count b.building.rows b.building.steps
+  pub counted : SetCount (meaning g) b.building.count
   pub not_many : Many (meaning g) → ⊥

@@ -3,7 +3,7 @@ ghost use Rattle.std.specs.Prelude.{◌≡◌, ℕ, ◌+◌, ◌<◌, ◌≤◌,
 ghost use Rattle.grammar.specs.Meaning.{meaning};
 ghost use Rattle.table_format.specs.ItemSets.{symbols as total};
 ghost use Rattle.states.specs.declared.fault.TableFault.TheVariants.{TooManyStates};
-ghost use Rattle.built_states.specs.Built.{row_items, Built, Many};
+ghost use Rattle.built_states.specs.Built.{row_items, Built, TooMany};
 ghost use Rattle.built_states.specs.Building.{CompletedAt, Come};
 ghost use Rattle.built_states.specs.Meaning.{Builds};
 
@@ -39,6 +39,7 @@ impl Building {
             .unwrap_or(slot)
     }
 
+    // In the table, and not by `Row::step`: it is a rule of the project that one row is lent and completed among the others.
     /// Completes a kernel in the place `slot` of the table, among the other rows, which keep their bytes.
     fn complete_at(&mut self, grammar: &Grammar, slot: usize, kernel: Row)
         requires { slot < 256 }
@@ -48,17 +49,15 @@ impl Building {
         self.rows[slot].complete(grammar);
     }
 
-    /// Tries the step of the state i by the symbol x. The row that is wanted is completed in the table, among the others, and becomes a new
-    /// state where none of them is the same.
+    /// Tries the step of the state i by the symbol x: the row that is wanted becomes a new state where none before it is the same.
     fn add_step(&mut self, grammar: &Grammar, i: usize, x: usize) -> Result<(), TableFault>
         requires come { Come (meaning grammar.now) self.old i x }
         requires state { i < self.old.count }
         requires symbol { x < total (meaning grammar.now) }
-        ensures cases { MatchResult result (λ _. Come (meaning grammar.now) self.new i (x + 1)) (λ e. (e ≡ TooManyStates) × Many (meaning grammar.now)) }
+        ensures cases { MatchResult result (λ _. Come (meaning grammar.now) self.new i (x + 1)) (TooMany (meaning grammar.now)) }
         ensures grows { self.old.count ≤ self.new.count }
     {
         let Some(kernel) = self.rows[i].kernel(grammar, x) else {
-            self.steps[i][x] = None;
             return Ok(());
         };
         let slot = usize::from(self.count);
@@ -78,7 +77,7 @@ impl Building {
     fn expand(&mut self, grammar: &Grammar, i: usize) -> Result<(), TableFault>
         requires come { Come (meaning grammar.now) self.old i 0 }
         requires state { i < self.old.count }
-        ensures cases { MatchResult result (λ _. Come (meaning grammar.now) self.new (i + 1) 0) (λ e. (e ≡ TooManyStates) × Many (meaning grammar.now)) }
+        ensures cases { MatchResult result (λ _. Come (meaning grammar.now) self.new (i + 1) 0) (TooMany (meaning grammar.now)) }
         ensures grows { self.old.count ≤ self.new.count }
     {
         for x in 0..usize::from(grammar.symbols()) {
@@ -89,7 +88,7 @@ impl Building {
 
     /// All states of the grammar.
     pub(crate) fn all(grammar: &Grammar) -> Result<Building, TableFault>
-        ensures { MatchResult result (λ b. Come (meaning grammar.now) b b.count 0) (λ e. (e ≡ TooManyStates) × Many (meaning grammar.now)) }
+        ensures { MatchResult result (λ b. Come (meaning grammar.now) b b.count 0) (TooMany (meaning grammar.now)) }
     {
         let mut states = Building::begin(grammar);
         let mut i = 0;
@@ -105,15 +104,13 @@ impl Building {
 impl BuiltStates {
     /// The states of the grammar, unless there are more than 255.
     pub fn build(grammar: &Grammar) -> Result<BuiltStates, TableFault>
-        ensures built { MatchResult result (λ b. (b.grammar ≡ grammar.now) × Built (meaning grammar.now) b.count b.rows b.steps) (λ e. (e ≡ TooManyStates) × Many (meaning grammar.now)) }
+        ensures built { MatchResult result (λ b. (b.grammar ≡ grammar.now) × Built (meaning grammar.now) b.building.count b.building.rows b.building.steps) (TooMany (meaning grammar.now)) }
         ensures counted { MatchResult result (λ b. Builds grammar.now b) (λ e. e ≡ TooManyStates) }
     {
-        let Building { count, rows, steps } = Building::all(grammar)?;
+        let building = Building::all(grammar)?;
         Ok(BuiltStates {
             grammar: *grammar,
-            count,
-            rows,
-            steps,
+            building,
         })
     }
 }

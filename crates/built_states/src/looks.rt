@@ -10,9 +10,8 @@ impl BuiltStates {
     pub fn row(&self, state: u8) -> Option<Row>
         ensures { RowAt (source self.now) state result }
     {
-        if state >= self.count {
-            return None;
-        }
-        Some(self.rows[usize::from(state)])
+        self.building.rows[..usize::from(self.building.count)]
+            .get(usize::from(state))
+            .copied()
     }
 }

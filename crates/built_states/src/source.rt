@@ -21,11 +21,11 @@ impl StateSource for BuiltStates {
     ghost lawful = { unfold source_of in
         λ b.
         let g = Meaning.meaning b.grammar in
-        let m : Matches g (table b) (row_items b.rows) = ∥∥₁_elim b.built (matches_prop g (table b) (row_items b.rows)) (λ x. x.matched) in
-        let few : b.count ≤ 255 = ∥∥₁_elim b.built le_prop (λ x. x.few) in
+        let m : Matches g (table b) (row_items b.building.rows) = ∥∥₁_elim b.built (matches_prop g (table b) (row_items b.building.rows)) (λ x. x.matched) in
+        let few : b.building.count ≤ 255 = ∥∥₁_elim b.built le_prop (λ x. x.few) in
         record {
           lawful = Sources.lawful (right_sides b.grammar) few m;
-          bounded = bounded g (table b) (row_items b.rows);
+          bounded = bounded g (table b) (row_items b.building.rows);
           some_states = ∥∥₁_elim b.built le_prop (λ x. x.some);
           few_states = few;
           well_formed = (held b.grammar).kept.well_formed;
@@ -59,7 +59,7 @@ impl StateSource for BuiltStates {
     }
 
     fn states(&self) -> u8 {
-        self.count
+        self.building.count
     }
 
     fn first(&self) -> u8 {
@@ -67,20 +67,14 @@ impl StateSource for BuiltStates {
     }
 
     fn next(&self, state: u8, symbol: u8) -> Option<u8> {
-        if state >= self.states() {
+        if state >= self.states() || symbol >= self.grammar.symbols() {
             return None;
         }
-        if symbol >= self.grammar.symbols() {
-            return None;
-        }
-        self.steps[usize::from(state)][usize::from(symbol)]
+        self.building.steps[usize::from(state)][usize::from(symbol)]
     }
 
     fn done(&self, state: u8, rule: u8) -> bool {
-        if state >= self.states() {
-            return false;
-        }
-        let row = self.rows[usize::from(state)];
-        row.is_done(&self.grammar, usize::from(rule))
+        state < self.states()
+            && self.building.rows[usize::from(state)].is_done(&self.grammar, usize::from(rule))
     }
 }

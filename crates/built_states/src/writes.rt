@@ -3,20 +3,27 @@ ghost use Rattle.std.specs.Prelude.{◌≡◌, ◌<◌, ◌≤◌, length, Match
 ghost use Rattle.parsing.specs.Grammar.{rule_count};
 ghost use Rattle.grammar.specs.Meaning.{meaning};
 ghost use Rattle.table_format.specs.ItemSets.{symbols as total};
-ghost use Rattle.table_format.specs.Sheets.{marks_at as marks_offset, header_bytes};
+ghost use Rattle.table_format.specs.Sheets.{header_bytes};
 ghost use Rattle.built_states.specs.Writing.{sheet, Written, Short};
 
 use crate::built::BuiltStates;
 use sheet_head::head_bytes;
 use states::TableFault;
+use table_layout::Layout;
 
 impl BuiltStates {
-    /// The offset of the done marks.
-    fn marks_at(&self) -> usize
-        ensures value { result ≡ marks_offset self.now.count (total (meaning self.now.grammar)) }
-        ensures bound { result ≤ 16332 }
+    // Not one function with that of `tables`: each takes its counts from where it holds them.
+    /// How the table sheet is laid out.
+    fn layout(&self) -> Layout
+        ensures states { result.states ≡ self.now.building.count }
+        ensures symbols { result.symbols ≡ total (meaning self.now.grammar) }
+        ensures rules { result.rules ≡ rule_count (meaning self.now.grammar) }
     {
-        12 + usize::from(self.count) * usize::from(self.grammar.symbols())
+        Layout {
+            states: u16::from(self.building.count),
+            symbols: u16::from(self.grammar.symbols()),
+            rules: u16::from(self.grammar.rules()),
+        }
     }
 
     /// How many bytes the table sheet has.
@@ -24,39 +31,42 @@ impl BuiltStates {
         ensures value { result ≡ length (sheet self.now) }
         ensures bound { result ≤ 32652 }
     {
-        self.marks_at() + usize::from(self.count) * usize::from(self.grammar.rules())
+        self.layout().sheet_len()
     }
 
     /// The header: the whole length; how many states, symbols and rules; the offsets of the steps and of the done marks.
     fn header(&self) -> [u8; 12]
-        ensures { result ≡ header_bytes self.now.count (total (meaning self.now.grammar)) (rule_count (meaning self.now.grammar)) }
+        ensures { result ≡ header_bytes self.now.building.count (total (meaning self.now.grammar)) (rule_count (meaning self.now.grammar)) }
     {
+        let layout = self.layout();
         head_bytes([
-            self.sheet_len() as u16,
-            u16::from(self.count),
-            u16::from(self.grammar.symbols()),
-            u16::from(self.grammar.rules()),
+            layout.sheet_len() as u16,
+            layout.states,
+            layout.symbols,
+            layout.rules,
             12,
-            self.marks_at() as u16,
+            layout.marks_at() as u16,
         ])
     }
 
+    // By offset: what stands at an offset is one function, so that writing is one loop.
     /// The byte of the sheet at an offset.
     fn sheet_byte(&self, offset: usize) -> u8
         requires { offset < length (sheet self.now) }
         ensures { result ≡ slice_index (sheet self.now) offset }
     {
-        let marks = self.marks_at();
+        let layout = self.layout();
+        let marks = layout.marks_at();
         if offset < 12 {
             self.header()[offset]
         } else if offset < marks {
             let cell = offset - 12;
-            let symbols = usize::from(self.grammar.symbols());
-            self.steps[cell / symbols][cell % symbols].unwrap_or(255)
+            let symbols = usize::from(layout.symbols);
+            self.building.steps[cell / symbols][cell % symbols].unwrap_or(255)
         } else {
             let cell = offset - marks;
-            let rules = usize::from(self.grammar.rules());
-            self.rows[cell / rules].is_done(&self.grammar, cell % rules) as u8
+            let rules = usize::from(layout.rules);
+            u8::from(self.building.rows[cell / rules].is_done(&self.grammar, cell % rules))
         }
     }
 

@@ -2,12 +2,12 @@
 use Rattle.std.proofs.Common.{◌≡◌, ℕ, ◌+◌, ◌-◌, ◌<◌, ◌≤◌, Bool, true, List, ◌++◌, length, get_or, take, replicate, sym, refl, ◌∙◌, subst, subst₂, inl, inr, arith}
 use Rattle.std.proofs.lemmas.List.{length-take-le, length-append, length-replicate, get_or-take, get_or_append_left, get_or-append_right, get_or-replicate, get_or_default}
 use Rattle.std.proofs.lemmas.Bool.{cases_lt}
+use Rattle.std.proofs.lemmas.Grind.{same_number_lists}
 use Rattle.parsing.specs.Grammar.{Grammar, WellFormed, rule_count, lhs, rhs}
 use Rattle.spans.specs.Spans.{part_fits, Met}
 use Rattle.records.specs.declared.node.Node.{Node}
 use Rattle.records.specs.declared.alternative.Alternative.{Alternative}
 use Rattle.parts.specs.Parts.{Of}
-use Rattle.parts.proofs.Visits.{same_numbers}
 use Rattle.sweep.specs.Finding.{node_at, node_of}
 use Rattle.sweep.specs.Sweeps.{MetNode, Exactly, OfSome}
 use Rattle.forest.specs.Forests.{recorded, MetRecord}
@@ -59,7 +59,7 @@ module _ (g : Grammar) (wf : WellFormed g) (fits : ℕ → ℕ → ℕ → Bool)
           → length (rhs g z.rule) ≤ 7 → length z.cuts ≡ 8 → ((q : ℕ) → length (rhs g z.rule) < q → q < 8 → get_or z.cuts q 0 ≡ 255)
           → z.cuts ≡ cs ++ replicate (8 - length cs) 255
       whole_cuts cs at lc short long unused =
-          same_numbers z.cuts (cs ++ replicate (8 - length cs) 255) (long ∙ sym (padded_length cs (omega arith)))
+          same_number_lists z.cuts (cs ++ replicate (8 - length cs) 255) (long ∙ sym (padded_length cs (omega arith)))
           (λ k l. elim (cases_lt k (length cs)) [
             | inl a ↦ sym (at k (omega arith)) ∙ sym (padded_used cs k a)
             | inr a ↦ unused k (omega arith) (omega arith) ∙ sym (padded_unused cs k a (omega arith))

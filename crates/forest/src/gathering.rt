@@ -31,16 +31,20 @@ fn write<S: StateSource, F: Fits>(
 {
     let mut node_register = Register::new(nodes);
     put_all_nodes(source, spans, last, &mut node_register).map_err(|_| GatherFault::NodesShort)?;
-    let mut register = Register::new(alternatives);
-    put_all_alternatives(source, spans, node_register.records(), &mut register).map_err(
-        |_| GatherFault::AlternativesShort,
-    )?;
+    let mut alternative_register = Register::new(alternatives);
+    put_all_alternatives(
+        source,
+        spans,
+        node_register.records(),
+        &mut alternative_register,
+    )
+    .map_err(|_| GatherFault::AlternativesShort)?;
     let counts = Counts {
         nodes: node_register.len(),
-        alternatives: register.len(),
+        alternatives: alternative_register.len(),
     };
     node_register.fill_rest(Node::blank());
-    register.fill_rest(Alternative::blank());
+    alternative_register.fill_rest(Alternative::blank());
     Ok(counts)
 }
 

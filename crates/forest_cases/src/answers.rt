@@ -1,6 +1,6 @@
 //! What a gathering answers and leaves in its lists.
 use built_states::BuiltStates;
-use forest::gather;
+use forest::{Counts, GatherFault, gather};
 use grammar::Grammar;
 use link_growth::Link;
 use records::{Alternative, Node};
@@ -10,11 +10,10 @@ use std::test::Fail;
 /// The room for nodes and for alternatives.
 pub const ROOM: usize = 8;
 
-/// The number of a refusal, or 0; both counts; and both lists, with their slots past the room that was lent.
+/// What a gathering answers, and both lists, with their slots past the room that was lent.
 #[derive(Clone, Copy)]
 pub struct Answer {
-    pub refused: u8,
-    pub counts: (usize, usize),
+    pub result: Result<Counts, GatherFault>,
     pub nodes: [Node; ROOM],
     pub alternatives: [Alternative; ROOM],
 }
@@ -44,25 +43,21 @@ pub fn gathered(
     links: &[Link],
     room: (usize, usize),
 ) -> Result<Answer, Fail> {
-    let grammar = Grammar::read(sheet).map_err(|_| Fail::new("the sheet is refused"))?;
-    let source = BuiltStates::build(&grammar).map_err(|_| Fail::new("there are too many states"))?;
+    let grammar = Grammar::read(sheet)?;
+    let source = BuiltStates::build(&grammar)?;
     let mut nodes = [old_node(); ROOM];
     let mut alternatives = [old_alternative(); ROOM];
     let (n, m) = room;
     assert!(rt; n <= ROOM && m <= ROOM);
-    let (refused, counts) = match gather(
+    let result = gather(
         &source,
         words,
         links,
         &mut nodes[0..n],
         &mut alternatives[0..m],
-    ) {
-        Ok(counts) => (0, (counts.nodes, counts.alternatives)),
-        Err(fault) => (fault.refusal().number, (0, 0)),
-    };
+    );
     Ok(Answer {
-        refused,
-        counts,
+        result,
         nodes,
         alternatives,
     })

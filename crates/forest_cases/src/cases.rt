@@ -1,30 +1,11 @@
 //! Gatherings over two small grammars.
 use crate::answers::{Answer, gathered};
+use forest::Counts;
 use link_growth::Link;
 use records::{Alternative, Node};
+use sample_sheets::{P, Q};
 use std::process::Abort;
 use std::test::Fail;
-
-/// The sheet of P: the terminals 0, the amount, 1, `tea`, and 2, `and`; 3 is the goal, and 4 is an amount and `tea`, or two of 4 with `and`
-/// between them.
-static P: [u8; 48] = *b"\
-    \x00\x30\x00\x03\x00\x02\x00\x03\x00\x0c\x00\x27\
-    \x03\x01\x04\xff\xff\xff\xff\xff\xff\
-    \x04\x02\x00\x01\xff\xff\xff\xff\xff\
-    \x04\x03\x04\x02\x04\xff\xff\xff\xff\
-    \x00\
-    \x03tea\
-    \x03and";
-
-/// The sheet of Q: the terminals 0, the amount, and 1, `tin`; 2 is the goal, and 3 is two of 3, or `tin`, or nothing.
-static Q: [u8; 53] = *b"\
-    \x00\x35\x00\x02\x00\x02\x00\x04\x00\x0c\x00\x30\
-    \x02\x01\x03\xff\xff\xff\xff\xff\xff\
-    \x03\x02\x03\x03\xff\xff\xff\xff\xff\
-    \x03\x01\x01\xff\xff\xff\xff\xff\xff\
-    \x03\x00\xff\xff\xff\xff\xff\xff\xff\
-    \x00\
-    \x03tin";
 
 /// A link by its states and places.
 fn link(state: u8, place: u8, below: u8, below_place: u8) -> Link {
@@ -41,20 +22,13 @@ fn node(from: u8, to: u8, symbol: u8) -> Node {
     Node { from, to, symbol }
 }
 
-/// An alternative by its rule and three cuts.
-fn alternative(rule: u8, a: u8, b: u8, c: u8) -> Alternative {
-    Alternative {
-        rule,
-        cuts: [a, b, c, 255, 255, 255, 255, 255],
+/// An alternative by its rule and the cuts that are used.
+fn alternative(rule: u8, used: &[u8]) -> Alternative {
+    let mut cuts = [255; 8];
+    for (cut, place) in cuts.iter_mut().zip(used) {
+        *cut = *place;
     }
-}
-
-/// An alternative by its rule and four cuts.
-fn longer(rule: u8, a: u8, b: u8, c: u8, d: u8) -> Alternative {
-    Alternative {
-        rule,
-        cuts: [a, b, c, d, 255, 255, 255, 255],
-    }
+    Alternative { rule, cuts }
 }
 
 /// The links of P over its eight words; the first three are those of the first two.
@@ -95,44 +69,42 @@ fn links_of_q() -> [Link; 11] {
     ]
 }
 
-/// The list holds these nodes, and blank ones past them.
-fn check_nodes(rt: &impl Abort, got: &Answer, nodes: &[Node]) {
-    assert!(rt; got.counts.0 == nodes.len());
-    for (k, node) in got.nodes.iter().enumerate() {
-        assert!(rt; *node == nodes.get(k).copied().unwrap_or(Node::blank()));
-    }
-}
-
-/// The list holds these alternatives, and blank ones past them.
-fn check_alternatives(rt: &impl Abort, got: &Answer, alternatives: &[Alternative]) {
-    assert!(rt; got.counts.1 == alternatives.len());
-    for (k, alternative) in got.alternatives.iter().enumerate() {
-        assert!(rt; *alternative == alternatives.get(k).copied().unwrap_or(Alternative::blank()));
+/// The list holds these records, and blank ones past them.
+fn check_records<T: Copy + PartialEq>(rt: &impl Abort, list: &[T], records: &[T], blank: T) {
+    for (k, record) in list.iter().enumerate() {
+        assert!(rt; *record == records.get(k).copied().unwrap_or(blank));
     }
 }
 
 /// The lists hold these records, and blank ones past them.
 fn check_lists(rt: &impl Abort, got: &Answer, nodes: &[Node], alternatives: &[Alternative]) {
-    assert!(rt; got.refused == 0);
-    check_nodes(rt, got, nodes);
-    check_alternatives(rt, got, alternatives);
+    let counts = Counts {
+        nodes: nodes.len(),
+        alternatives: alternatives.len(),
+    };
+    assert!(rt; got.result == Ok(counts));
+    check_records(rt, &got.nodes, nodes, Node::blank());
+    check_records(rt, &got.alternatives, alternatives, Alternative::blank());
 }
 
-/// The lists of this room are blank.
+/// The slots that were lent are blank, and no others.
+fn check_slots<T: Copy + PartialEq>(rt: &impl Abort, list: &[T], lent: usize, blank: T) {
+    for (k, record) in list.iter().enumerate() {
+        assert!(rt; (*record == blank) == (k < lent));
+    }
+}
+
+/// The refusal has this number, and the lists of this room are blank.
 fn check_blank(rt: &impl Abort, got: &Answer, number: u8, room: (usize, usize)) {
-    assert!(rt; got.refused == number);
-    for (k, node) in got.nodes.iter().enumerate() {
-        assert!(rt; (*node == Node::blank()) == (k < room.0));
-    }
-    for (k, alternative) in got.alternatives.iter().enumerate() {
-        assert!(rt; (*alternative == Alternative::blank()) == (k < room.1));
-    }
+    assert!(rt; got.result.map_err(|fault| fault.refusal().number) == Err(number));
+    check_slots(rt, &got.nodes, room.0, Node::blank());
+    check_slots(rt, &got.alternatives, room.1, Alternative::blank());
 }
 
 #[test]
 fn one_part_of_p(rt: HostRuntime) -> Result<(), Fail> {
     let got = gathered(&rt, &P, &[0, 1], &links_of_p()[0..3], (8, 8))?;
-    check_lists(&rt, &got, &[node(0, 2, 4)], &[alternative(1, 0, 1, 2)]);
+    check_lists(&rt, &got, &[node(0, 2, 4)], &[alternative(1, &[0, 1, 2])]);
     Ok(())
 }
 
@@ -151,13 +123,13 @@ fn three_parts_of_p(rt: HostRuntime) -> Result<(), Fail> {
             node(6, 8, 4),
         ],
         &[
-            alternative(1, 0, 1, 2),
-            longer(2, 0, 2, 3, 5),
-            longer(2, 0, 2, 3, 8),
-            longer(2, 0, 5, 6, 8),
-            alternative(1, 3, 4, 5),
-            longer(2, 3, 5, 6, 8),
-            alternative(1, 6, 7, 8),
+            alternative(1, &[0, 1, 2]),
+            alternative(2, &[0, 2, 3, 5]),
+            alternative(2, &[0, 2, 3, 8]),
+            alternative(2, &[0, 5, 6, 8]),
+            alternative(1, &[3, 4, 5]),
+            alternative(2, &[3, 5, 6, 8]),
+            alternative(1, &[6, 7, 8]),
         ],
     );
     Ok(())
@@ -170,7 +142,7 @@ fn no_words_of_q(rt: HostRuntime) -> Result<(), Fail> {
         &rt,
         &got,
         &[node(0, 0, 3)],
-        &[alternative(1, 0, 0, 0), alternative(3, 0, 255, 255)],
+        &[alternative(1, &[0, 0, 0]), alternative(3, &[0])],
     );
     Ok(())
 }
@@ -183,13 +155,13 @@ fn one_word_of_q(rt: HostRuntime) -> Result<(), Fail> {
         &got,
         &[node(0, 0, 3), node(0, 1, 3), node(1, 1, 3)],
         &[
-            alternative(1, 0, 0, 0),
-            alternative(3, 0, 255, 255),
-            alternative(1, 0, 0, 1),
-            alternative(1, 0, 1, 1),
-            alternative(2, 0, 1, 255),
-            alternative(1, 1, 1, 1),
-            alternative(3, 1, 255, 255),
+            alternative(1, &[0, 0, 0]),
+            alternative(3, &[0]),
+            alternative(1, &[0, 0, 1]),
+            alternative(1, &[0, 1, 1]),
+            alternative(2, &[0, 1]),
+            alternative(1, &[1, 1, 1]),
+            alternative(3, &[1]),
         ],
     );
     Ok(())
@@ -198,7 +170,11 @@ fn one_word_of_q(rt: HostRuntime) -> Result<(), Fail> {
 #[test]
 fn exactly_enough_room(rt: HostRuntime) -> Result<(), Fail> {
     let got = gathered(&rt, &Q, &[1], &links_of_q(), (3, 7))?;
-    assert!(rt; got.refused == 0 && got.counts.0 == 3 && got.counts.1 == 7);
+    let counts = Counts {
+        nodes: 3,
+        alternatives: 7,
+    };
+    assert!(rt; got.result == Ok(counts));
     Ok(())
 }
 

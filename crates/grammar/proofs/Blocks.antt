@@ -1,8 +1,9 @@
 -- The nine bytes of a rule.
-use Rattle.std.proofs.Common.{◌≡◌, ℕ, ◌+◌, ◌-◌, ◌*◌, ◌<◌, ◌≤◌, ◌≢◌, List, length, get_or, take, drop, sym, ap, ◌∙◌, ap₂, refl, arith, length-drop, get_or-drop, get_or-take, length-take-le}
+use Rattle.std.proofs.Common.{take-take, ◌≡◌, ℕ, zero, suc, ◌+◌, ◌-◌, ◌*◌, ◌/◌, ◌<◌, ◌≤◌, ◌≢◌, List, [], length, get_or, take, drop, sym, ap, ◌∙◌, ap₂, refl, arith, length-drop, get_or-drop, get_or-take, length-take-le}
 use mathlib.Core.Path.{subst₃}
-use Rattle.std.proofs.lemmas.List.{take_rest}
-use Rattle.grammar_format.specs.Sheets.{rule_bytes}
+use Rattle.std.proofs.lemmas.List.{drop-drop, drop-take, take_all}
+use Rattle.std.specs.Simd.{first_chunks}
+use Rattle.grammar_format.specs.Sheets.{rule_bytes, rules_end}
 use Rattle.grammar_format.specs.Fields.{terminals, nonterminals, symbols, rules, block, left, right_length, right, rule_of}
 use Rattle.grammar_format.specs.Breaches.{IllFormed, unknown, unfilled, Breach, rule_form}
 use Rattle.grammar_format.proofs.Cleaning.{Formed, formed_fine}
@@ -10,12 +11,15 @@ use Rattle.grammar_format.proofs.Rules.{rule_bytes_of}
 
 -- The seven bytes behind the first two, split behind as many as the second tells.
 module _ (x : List ℕ) (nine : length x ≡ 9) (n : ℕ) (e : n ≡ right_length x) (short : right_length x ≤ 7) (xs ys : List ℕ)
-    (front : xs ≡ take n (take (length x - 2) (drop 2 x))) (back : ys ≡ drop n (take (length x - 2) (drop 2 x))) where
+    (front : xs ≡ take n (take 7 (drop 2 x))) (back : ys ≡ drop n (take 7 (drop 2 x))) where
+  behind : take 7 (drop 2 x) ≡ drop 2 x
+  behind = take_all 7 (drop 2 x) (omega (arith, length-drop 2 x))
+
   front_is : xs ≡ take (right_length x) (drop 2 x)
-  front_is = front ∙ ap₂ (λ (k : ℕ) (zs : List ℕ). take k zs) e (take_rest x 2)
+  front_is = front ∙ ap₂ (λ (k : ℕ) (zs : List ℕ). take k zs) e behind
 
   back_is : ys ≡ drop (right_length x) (drop 2 x)
-  back_is = back ∙ ap₂ (λ (k : ℕ) (zs : List ℕ). drop k zs) e (take_rest x 2)
+  back_is = back ∙ ap₂ (λ (k : ℕ) (zs : List ℕ). drop k zs) e behind
 
   front_size : length xs ≡ right_length x
   front_size = ap length front_is ∙ length-take-le (right_length x) (drop 2 x) (omega (arith, length-drop 2 x))
@@ -60,20 +64,33 @@ module _ (x : List ℕ) (nine : length x ≡ 9) (n : ℕ) (e : n ≡ right_lengt
     unfolding rule_of
     block_same zs i = ap (λ (us : List ℕ). rule_bytes (record { left = get_or x 0 0; right = us })) (i ∙ front_is) ∙ rule_bytes_of x nine formed
 
--- The part of the sheet from 12 + 9 r on, nine bytes long, is the block of the rule r.
-pub part_is : (b : List ℕ) (r : ℕ) → take ((12 + 9 * r + 9) - (12 + 9 * r)) (drop (12 + 9 * r) b) ≡ block b r
+-- The pieces of nine bytes from 12 on are the blocks of the rules.
+chunk_at : (k : ℕ) (xs : List ℕ) (r : ℕ) → r < k → get_or (first_chunks 9 k xs) r [] ≡ take 9 (drop (9 * r) xs)
+chunk_at zero xs r h = absurd (omega arith)
+chunk_at (suc k) xs zero h = refl
+chunk_at (suc k) xs (suc r) h =
+    chunk_at k (drop 9 xs) r (omega arith) ∙ ap (take 9) (drop-drop (9 * r) 9 xs ∙ ap (λ (n : ℕ). drop n xs) (omega arith))
+
+pub chunk_is : (b : List ℕ) (R k r E : ℕ) → E ≡ rules_end R → r < k → k ≤ R → get_or (first_chunks 9 k (take (E - 12) (drop 12 b))) r [] ≡ block b r
 unfolding block
-part_is b r =
-    let e : (12 + 9 * r + 9) - (12 + 9 * r) ≡ 9 = omega arith in ap (λ (n : ℕ). take n (drop (12 + 9 * r) b)) e
+chunk_is b R k r E e h l =
+    let m = 9 * (R - r - 1) in
+    let i : E - 12 ≡ 9 * r + (9 + m) = omega arith in
+    chunk_at k (take (E - 12) (drop 12 b)) r h
+    ∙ ap (λ (n : ℕ). take 9 (drop (9 * r) (take n (drop 12 b)))) i
+    ∙ ap (take 9) (drop-take (9 * r) (9 + m) (drop 12 b))
+    ∙ take-take 9 (9 + m) (drop (9 * r) (drop 12 b)) (omega arith)
+    ∙ ap (take 9) (drop-drop (9 * r) 12 b)
 
-module _ (b : List ℕ) (r : ℕ) {T N : ℕ} (t : T ≡ terminals b) (n : N ≡ nonterminals b) where
-  pub block_ill : IllFormed T (T + N) (take ((12 + 9 * r + 9) - (12 + 9 * r)) (drop (12 + 9 * r) b))
-      → IllFormed (terminals b) (symbols b) (block b r)
-  block_ill = subst₃ IllFormed t (ap₂ ◌+◌ t n) (part_is b r)
+pub chunk_count : (b : List ℕ) (R E : ℕ) → E ≡ rules_end R → E ≤ length b → length (take (E - 12) (drop 12 b)) / 9 ≡ R
+chunk_count b R E e h = omega (arith, length-take-le (E - 12) (drop 12 b) (omega (arith, length-drop 12 b)))
 
-  pub block_fine : (IllFormed T (T + N) (take ((12 + 9 * r + 9) - (12 + 9 * r)) (drop (12 + 9 * r) b)) → ⊥)
-      → IllFormed (terminals b) (symbols b) (block b r) → ⊥
-  block_fine f h = f (subst₃ IllFormed (sym t) (sym (ap₂ ◌+◌ t n)) (sym (part_is b r)) h)
+module _ (b : List ℕ) (r : ℕ) {T N : ℕ} (t : T ≡ terminals b) (n : N ≡ nonterminals b) (x : List ℕ) (e : x ≡ block b r) where
+  pub block_ill : IllFormed T (T + N) x → IllFormed (terminals b) (symbols b) (block b r)
+  block_ill = subst₃ IllFormed t (ap₂ ◌+◌ t n) e
+
+  pub block_fine : (IllFormed T (T + N) x → ⊥) → IllFormed (terminals b) (symbols b) (block b r) → ⊥
+  block_fine f h = f (subst₃ IllFormed (sym t) (sym (ap₂ ◌+◌ t n)) (sym e) h)
 
 -- No breach of row 13 stands at r, or past the last rule.
 pub no_breach : {b : List ℕ} {r : ℕ} → (IllFormed (terminals b) (symbols b) (block b r) → ⊥) → Breach b 13 r → ⊥

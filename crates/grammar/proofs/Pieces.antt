@@ -4,7 +4,7 @@ use Rattle.std.specs.List.{flat_map}
 use Rattle.std.proofs.lemmas.List.{length-take-le, length-replicate, take_at, drop_at, length-append}
 use Rattle.std.proofs.lemmas.List.Concat.{length-flat_map}
 use Rattle.parsing.specs.Grammar.{rule_count}
-use Rattle.grammar_format.specs.Sheets.{sheet_bytes, rule_bytes, rules_bytes, spelling_bytes, spellings_bytes, wide, header_bytes}
+use Rattle.grammar_format.specs.Sheets.{sheet_bytes, rule_bytes, rules_bytes, spelling_bytes, spellings_bytes, rules_end, wide, header_bytes}
 use Rattle.grammar_format.proofs.Decoding as decoding
 use Rattle.grammar_format.proofs.Listed.{length_joined}
 use Rattle.grammar_format.proofs.Sizes.{sheet_bytes_few}
@@ -57,16 +57,17 @@ module _ (g : Grammar) where
   sheet_is = append_assoc (header_bytes (sheet g)) (rules_bytes (sheet g)) (spellings_bytes (sheet g))
 
   -- The header, the rules and the spellings, put one behind another into a room that is long enough, are the sheet.
-  module _ {a t s r : ℕ} (size : a ≡ length (sheet_bytes (sheet g))) (ts : t ≡ (meaning g).terminals) (ss : s ≡ (meaning g).nonterminals)
-      (rs : r ≡ rule_count (meaning g)) where
-    numbers_are : flat_map wide (a ∷ (t ∷ (s ∷ (r ∷ (12 ∷ ((12 + 9 * r) ∷ [])))))) ≡ header_bytes (sheet g)
+  module _ {a t s r z : ℕ} (size : a ≡ length (sheet_bytes (sheet g))) (ts : t ≡ (meaning g).terminals) (ss : s ≡ (meaning g).nonterminals)
+      (rs : r ≡ rule_count (meaning g)) (zs : z ≡ rules_end (rule_count (meaning g))) where
+    numbers_are : flat_map wide (a ∷ (t ∷ (s ∷ (r ∷ (12 ∷ (z ∷ [])))))) ≡ header_bytes (sheet g)
     numbers_are =
-        ap₂ (λ (x y : ℕ). flat_map wide (a ∷ (x ∷ (y ∷ (r ∷ (12 ∷ ((12 + 9 * r) ∷ []))))))) ts ss
-        ∙ ap₂ (λ (k m : ℕ). flat_map wide (k ∷ ((meaning g).terminals ∷ ((meaning g).nonterminals ∷ (m ∷ (12 ∷ ((12 + 9 * m) ∷ [])))))))
+        ap₂ (λ (x y : ℕ). flat_map wide (a ∷ (x ∷ (y ∷ (r ∷ (12 ∷ (z ∷ []))))))) ts ss
+        ∙ ap₂ (λ (k m : ℕ). flat_map wide (k ∷ ((meaning g).terminals ∷ ((meaning g).nonterminals ∷ (m ∷ (12 ∷ (z ∷ [])))))))
         (size ∙ decoding.length_sheet_bytes (sheet g)) rs
+        ∙ ap (λ (k : ℕ). flat_map wide ((12 + (length (rules_bytes (sheet g)) + length (spellings_bytes (sheet g)))) ∷ ((meaning g).terminals ∷ ((meaning g).nonterminals ∷ (rule_count (meaning g) ∷ (12 ∷ (k ∷ []))))))) zs
 
-    pub written : (old one two new head : List ℕ) → a ≤ length old → head ≡ flat_map wide (a ∷ (t ∷ (s ∷ (r ∷ (12 ∷ ((12 + 9 * r) ∷ []))))))
-        → Put old 0 head one → Put one 12 (rules_bytes (sheet g)) two → Put two (12 + 9 * r) (spellings_bytes (sheet g)) new
+    pub written : (old one two new head : List ℕ) → a ≤ length old → head ≡ flat_map wide (a ∷ (t ∷ (s ∷ (r ∷ (12 ∷ (z ∷ []))))))
+        → Put old 0 head one → Put one 12 (rules_bytes (sheet g)) two → Put two z (spellings_bytes (sheet g)) new
         → Writes (sheet_bytes (sheet g)) old new a
     written old one two new head h e p q w =
         let X = sheet_bytes (sheet g) in
@@ -76,7 +77,7 @@ module _ (g : Grammar) where
         let D = drop (0 + length X) old in
         let first : Put old 0 H one = subst (λ (xs : List ℕ). Put old 0 xs one) (e ∙ numbers_are) p in
         let second : Put old 0 (H ++ R) two = put_more old one two H R 0 (omega arith) first q in
-        let at : 12 + 9 * r ≡ 0 + length (H ++ R) = omega (arith, length-append H R, rules_size) in
+        let at : z ≡ 0 + length (H ++ R) = omega (arith, length-append H R, rules_size) in
         let third : Put old 0 ((H ++ R) ++ S) new = put_more old two new (H ++ R) S 0 (omega arith) second (subst (λ (k : ℕ). Put two k S new) at w) in
         let whole : new ≡ X ++ D = subst (λ (xs : List ℕ). Put old 0 xs new) sheet_is third in
         let end : 0 + length X ≡ a = omega arith in

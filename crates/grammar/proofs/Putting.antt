@@ -1,20 +1,9 @@
 -- Bytes put into a room one piece behind another.
-use Rattle.std.proofs.Common.{◌≡◌, ℕ, ◌+◌, ◌<◌, ◌≤◌, List, [], ◌∷◌, ◌++◌, map, length, get_or, take, drop, sym, refl, ap, ◌∙◌, subst, ap₂, subst₂, append_assoc, add-zero, arith}
-use borrow.Rule.Slice.PartMut.{put_mid}
+use Rattle.std.proofs.Common.{◌≡◌, ℕ, ◌+◌, ◌<◌, ◌≤◌, ◌-◌, List, [], ◌∷◌, ◌++◌, map, length, get_or, take, drop, sym, refl, ap, ◌∙◌, subst, ap₂, subst₂, append_assoc, arith}
 use Rattle.std.specs.List.{flat_map}
-use Rattle.std.proofs.lemmas.List.{length-append, length-take, take_at, take_all, drop_at, drop-drop, take-append-drop, take_more, flat_map_more}
-use Rattle.std.proofs.lemmas.Slice.{put_mid-paste}
+use Rattle.std.proofs.lemmas.List.{append-nil, length-append, length-take, length-take-le, length-drop, take_at, drop_at, drop_all, drop-drop, take_more, take_rest, flat_map_more}
 use Rattle.grammar.specs.Writing.{Put}
-
-pub put_nothing : (old : List ℕ) (at : ℕ) → Put old at [] old
-put_nothing old at = sym (ap (λ (k : ℕ). take at old ++ drop k old) (add-zero at) ∙ take-append-drop at old)
-
--- A part of the room that is written over is such a piece.
-pub put_part : (old xs ys : List ℕ) (at k : ℕ) → ys ≡ xs → k ≡ length xs → Put old at xs (put_mid at k old ys)
-put_part old xs ys at k e l =
-    put_mid-paste at k old ys xs (length xs) e (sym l) refl
-    ∙ ap (λ (zs : List ℕ). (take at old ++ zs) ++ drop (at + length xs) old) (take_all (length xs) xs (omega arith))
-    ∙ append_assoc (take at old) xs (drop (at + length xs) old)
+use borrow.Rule.Slice.PartMut.{put_mid}
 
 -- One piece more, behind what has been put.
 pub put_more : (old mid new xs ys : List ℕ) (at : ℕ) → at ≤ length old → Put old at xs mid → Put mid (at + length xs) ys new
@@ -33,6 +22,35 @@ put_more old mid new xs ys at h p q =
     q ∙ ap₂ (λ (us vs : List ℕ). us ++ (ys ++ vs)) front back
     ∙ append_assoc (take at old) xs (ys ++ drop (at + length (xs ++ ys)) old)
     ∙ ap (λ (us : List ℕ). take at old ++ us) (sym (append_assoc xs ys (drop (at + length (xs ++ ys)) old)))
+
+-- Bytes put to the front of the rest of a room, which begins at an offset.
+pub put_behind : (old rest xs : List ℕ) (at : ℕ) → Put (take (length old - at) (drop at old)) 0 xs rest
+    → Put old at xs (put_mid at (length old - at) old rest)
+put_behind old rest xs at p =
+    let n = length old - at in
+    let back : drop (0 + length xs) (take n (drop at old)) ≡ drop (at + length xs) old =
+    ap (λ (k : ℕ). drop k (take n (drop at old))) (omega arith) ∙ ap (drop (length xs)) (take_rest old at) ∙ drop-drop (length xs) at old
+    in
+    let none : drop n (drop at old) ≡ [] = drop_all n (drop at old) (omega (arith, length-drop at old)) in
+    ap (λ (us : List ℕ). take at old ++ us)
+    (ap (λ (us : List ℕ). rest ++ us) none ∙ append-nil rest ∙ p ∙ ap (λ (us : List ℕ). xs ++ us) back)
+
+pub rest_size : (old : List ℕ) (at : ℕ) → length (take (length old - at) (drop at old)) ≡ length old - at
+rest_size old at = ap length (take_rest old at) ∙ length-drop at old
+
+pub put_size : (old rest : List ℕ) (at : ℕ) → at ≤ length old → length rest ≡ length (take (length old - at) (drop at old))
+    → length (put_mid at (length old - at) old rest) ≡ length old
+put_size old rest at h e =
+    let past = drop (length old - at) (drop at old) in
+    omega (
+      arith,
+      length-append (take at old) (rest ++ past),
+      length-append rest past,
+      length-take-le at old h,
+      rest_size old at,
+      length-drop (length old - at) (drop at old),
+      length-drop at old,
+    )
 
 -- The pieces of a list, one element after another.
 pub joined_next : {X : Type 0} (f : X → List ℕ) (xs : List X) (k : ℕ) (d : X) → k < length xs

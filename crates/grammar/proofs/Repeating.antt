@@ -1,5 +1,5 @@
 -- A word among the earlier ones.
-use Rattle.std.proofs.Common.{◌≡◌, ℕ, ◌<◌, List, [], length, get_or, take, sym, ap, ◌∙◌, arith}
+use Rattle.std.proofs.Common.{◌≡◌, ℕ, ◌<◌, Bool, true, false, MatchBool, List, [], length, get_or, take, sym, ap, ◌∙◌, arith}
 use Rattle.std.specs.List.{AllWithin, HoldsAt}
 use Rattle.std.proofs.lemmas.List.{get_or-map, get_or-take, length-take-le}
 use Rattle.grammar.specs.Holding.{words}
@@ -18,8 +18,13 @@ module _ (ws : List (Few ℕ 12)) (t : ℕ) (l : t < length ws) (w : Few ℕ 12)
   before : length (take t ws) ≡ t
   before = length-take-le t ws (omega arith)
 
-  pub repeats : (u : ℕ) × (u < length (take t ws)) × HoldsAt (λ y. items y ≡ xs) (take t ws) u → Repeated (words ws) t
+  repeats : (u : ℕ) × (u < length (take t ws)) × HoldsAt (λ y. items y ≡ xs) (take t ws) u → Repeated (words ws) t
   repeats (u, h, g) = let i : u < t = omega (arith, before) in (u, i, earlier u i ∙ g w ∙ sym here)
 
-  pub repeats_none : AllWithin (λ y. items y ≡ xs → ⊥) (take t ws) 0 (length (take t ws)) → Repeated (words ws) t → ⊥
+  repeats_none : AllWithin (λ y. items y ≡ xs → ⊥) (take t ws) 0 (length (take t ws)) → Repeated (words ws) t → ⊥
   repeats_none n (u, h, g) = n u w (omega arith) (omega (arith, before)) (sym (earlier u h) ∙ g ∙ here)
+
+  pub is_told : (b : Bool) → MatchBool b ((u : ℕ) × (u < length (take t ws)) × HoldsAt (λ y. items y ≡ xs) (take t ws) u) (AllWithin (λ y. items y ≡ xs → ⊥) (take t ws) 0 (length (take t ws)))
+      → MatchBool b (Repeated (words ws) t) (Repeated (words ws) t → ⊥)
+  is_told true h = repeats h
+  is_told false h = repeats_none h

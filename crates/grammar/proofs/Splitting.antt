@@ -1,27 +1,15 @@
 -- The bytes of a spelling, and the sheet behind it.
-use Rattle.std.proofs.Common.{◌≡◌, ℕ, ◌+◌, ◌-◌, ◌*◌, ◌<◌, ◌≤◌, List, [], ◌∷◌, length, get_or, take, drop, sym, ap, ◌∙◌, subst, add-one, arith}
+use Rattle.std.proofs.Common.{◌≡◌, ℕ, ◌+◌, ◌-◌, ◌<◌, ◌≤◌, List, length, get_or, take, drop, sym, ap, ◌∙◌, subst, add-one, arith}
 use Rattle.std.proofs.lemmas.List.{take_rest}
+use Rattle.grammar_format.specs.Sheets.{rules_end}
 use Rattle.grammar_format.specs.Fields.{terminals, rules, remains, spelling, first_spelling, behind_spelling}
 use Rattle.grammar_format.proofs.Cleaning.{row_15, well_spelled}
 use Rattle.grammar_format.specs.Breaches.{IllSpelled, Breach, cut, spelling_form, left_over}
 
--- Split behind as many bytes as the first tells.
-pub split_parts : (b : List ℕ) (n : ℕ) (w z : List ℕ) → 1 ≤ length b → n ≡ get_or b 0 0
-    → n ≤ length (take (length b - 1) (drop 1 b))
-    → w ≡ take n (take (length b - 1) (drop 1 b)) → z ≡ drop n (take (length b - 1) (drop 1 b))
-    → (get_or b 0 0 < length b) × (w ≡ first_spelling b) × (z ≡ behind_spelling b)
-split_parts [] n w z h e l f g = absurd (omega arith)
-split_parts (k ∷ xs) n w z h e l f g =
-    let r = take_rest (k ∷ xs) 1 in (
-      omega (arith, ap length r),
-      f ∙ ap (take n) r ∙ ap (λ (m : ℕ). take m xs) e,
-      g ∙ ap (drop n) r ∙ ap (λ (m : ℕ). drop m xs) e,
-    )
-
 -- The spellings begin behind the rules.
-pub remains_first : (b : List ℕ) (n : ℕ) → n ≡ rules b → take (length b - (12 + 9 * n)) (drop (12 + 9 * n) b) ≡ remains b 0
+pub remains_first : (b : List ℕ) (n : ℕ) → n ≡ rules_end (rules b) → take (length b - n) (drop n b) ≡ remains b 0
 unfolding remains
-remains_first b n e = take_rest b (12 + 9 * n) ∙ ap (λ (k : ℕ). drop (12 + 9 * k) b) e
+remains_first b n e = take_rest b n ∙ ap (λ (k : ℕ). drop k b) e
 
 -- What a reading of one spelling says of the terminal t, where z is the sheet that remains and w the spelling read.
 module _ (b : List ℕ) (t : ℕ) (z w : List ℕ) (e : z ≡ remains b t) (f : w ≡ first_spelling z) where

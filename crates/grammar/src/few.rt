@@ -3,8 +3,8 @@ ghost use Rattle.std.specs.Prelude.{◌≡◌, ◌<◌, ◌≤◌, length};
 
 use std::alloc::AllocError;
 
+// Its own type: a grammar is `Copy`, and the lists of `arrayvec` are not.
 /// The first `count` of `room`.
-// Its own type: a grammar is Copy, and the lists of `arrayvec` are not.
 pub(crate) struct Few<T: Copy, const N: usize> {
     pub(crate) room: [T; N],
     pub(crate) count: u8,

@@ -14,13 +14,10 @@ impl Rule {
         if r > 0 {
             return self.left == goal || self.right.as_slice().contains(&goal);
         }
-        if self.left != goal {
-            return true;
-        }
         let [start] = self.right.as_slice() else {
             return true;
         };
-        *start <= goal
+        self.left != goal || *start <= goal
     }
 }
 
@@ -28,6 +25,7 @@ impl Rule {
 pub(crate) fn goal_misused(rules: &[Rule], goal: u8) -> Option<usize>
     ensures { FirstOf 0 (length rules.now) (λ r. GoalMisused goal r (block_at rules.now r)) result }
 {
+    // Not `find`: from a call within a closure the proof does not learn that the goal is misused.
     for (r, rule) in rules.iter().enumerate() {
         if rule.misuses(r, goal) {
             return Some(r);

@@ -4,7 +4,7 @@ ghost use Rattle.grammar.specs.Heads.{Outside, Headed};
 ghost use Rattle.grammar.specs.Refusals.{FirstFault};
 
 use crate::fault::GrammarFault;
-use crate::header::Header;
+use crate::header::{Header, rules_end};
 use sheet_head::read_head;
 
 /// A count, which lies in its range.
@@ -22,9 +22,6 @@ impl Header {
     pub(crate) fn read(sheet: &[u8]) -> Result<Header, GrammarFault>
         ensures { MatchResult result (λ h. Headed sheet.now h) (λ e. FirstFault sheet.now e) }
     {
-        let Some(head) = read_head(sheet) else {
-            return Err(GrammarFault::WholeLength);
-        };
         let [
             length,
             terminals,
@@ -32,14 +29,14 @@ impl Header {
             rules,
             rules_at,
             spellings_at,
-        ] = head;
+        ] = read_head(sheet).ok_or(GrammarFault::WholeLength)?;
         if usize::from(length) != sheet.len() {
             return Err(GrammarFault::WholeLength);
         }
         let terminals = count(terminals, 1, 40)?;
         let nonterminals = count(nonterminals, 2, 24)?;
         let rules = count(rules, 2, 64)?;
-        let end = 12 + 9 * u16::from(rules);
+        let end = rules_end(rules);
         if rules_at != 12 || spellings_at != end || length < end {
             return Err(GrammarFault::Offset);
         }

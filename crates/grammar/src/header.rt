@@ -1,5 +1,6 @@
 //! What the header of a grammar sheet tells.
-ghost use Rattle.std.specs.Prelude.{◌≤◌};
+ghost use Rattle.std.specs.Prelude.{◌≡◌, ◌≤◌};
+ghost use Rattle.grammar_format.specs.Sheets.{rules_end};
 
 /// How many terminals, nonterminals and rules there are.
 #[derive(Clone, Copy)]
@@ -10,4 +11,11 @@ pub(crate) struct Header {
     ghost few_terminals: { terminals ≤ 40 },
     ghost few_nonterminals: { nonterminals ≤ 24 },
     ghost few_rules: { rules ≤ 64 },
+}
+
+/// The offset at which so many rules end, and the spellings begin.
+pub(crate) fn rules_end(rules: u8) -> u16
+    ensures { result ≡ rules_end rules }
+{
+    12 + 9 * u16::from(rules)
 }

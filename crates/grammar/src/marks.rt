@@ -9,6 +9,7 @@ ghost use Rattle.grammar.specs.Marking.{marked, Ready, Sound, Within, Closed, un
 use crate::header::Header;
 use crate::rule::Rule;
 
+// Rows of marks and not sets of symbols: those stand on this crate.
 impl Rule {
     /// Whether all right symbols are marked.
     fn is_ready(&self, marks: &[bool; 256]) -> bool

@@ -61,10 +61,7 @@ impl Grammar {
     pub fn length(&self, rule: usize) -> u8
         ensures { result ≡ right_length (meaning self.now) rule }
     {
-        match self.rule(rule) {
-            Some(rule) => rule.right.count(),
-            None => 255,
-        }
+        self.rule(rule).map_or(255, |rule| rule.right.count())
     }
 
     /// The right symbol of a rule at a place; 255 where there is none.
@@ -72,11 +69,9 @@ impl Grammar {
     pub fn right(&self, rule: usize, place: usize) -> u8
         ensures { result ≡ right_symbol (meaning self.now) rule place }
     {
-        let Some(rule) = self.rule(rule) else {
-            return 255;
-        };
-        let right = rule.right.as_slice();
-        right.get(place).copied().unwrap_or(255)
+        let rule = self.rule(rule);
+        let symbol = rule.and_then(|rule| rule.right.as_slice().get(place));
+        symbol.copied().unwrap_or(255)
     }
 
     /// The spelling of a terminal, which is empty for the amount; none where there is no such terminal.

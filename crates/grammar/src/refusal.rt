@@ -14,7 +14,7 @@ pub enum Layer {
     Program,
 }
 
-/// A refusal as it is shown; a place that its row does not name is 0.
+/// A refusal as it is shown; a place that the refusal does not name is 0.
 #[derive(Clone, Copy, PartialEq, Eq, Debug)]
 pub struct Refusal {
     // A number, since it is what is shown: the faults behind it are enums.

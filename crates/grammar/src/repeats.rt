@@ -1,35 +1,24 @@
 //! No two terminals are spelled alike.
-ghost use Rattle.std.specs.Prelude.{◌≡◌, ℕ, ◌<◌, ◌≢◌, length, Decides, MatchBool};
-ghost use Rattle.std.specs.List.{AllWithin, HoldsAt};
+ghost use Rattle.std.specs.Prelude.{◌≡◌, ℕ, ◌<◌, length, MatchBool};
 ghost use Rattle.grammar.specs.Finding.{FirstOf};
 ghost use Rattle.grammar.specs.Holding.{words};
-ghost use Rattle.grammar.specs.Lists.{items};
 ghost use Rattle.grammar.specs.Progress.{Repeated};
 
 use crate::spelling::Spelling;
 
-/// Whether the spelling is the word.
-fn is_word(spelling: &Spelling, word: &[u8]) -> bool
-    ensures { Decides result (items spelling.now ≡ word.now) }
+/// Whether a terminal is spelled like an earlier one.
+fn is_repeated(spellings: &[Spelling], terminal: usize) -> bool
+    requires { terminal < length spellings.now }
+    ensures { MatchBool result (Repeated (words spellings.now) terminal) (Repeated (words spellings.now) terminal → ⊥) }
 {
-    spelling.as_slice() == word
-}
-
-/// Whether one of the spellings is the word.
-fn has_word(spellings: &[Spelling], word: &[u8]) -> bool
-    ensures { MatchBool result ((u : ℕ) × (u < length spellings.now) × HoldsAt (λ w. items w ≡ word.now) spellings.now u) (AllWithin (λ w. items w ≢ word.now) spellings.now 0 (length spellings.now)) }
-{
-    spellings.iter().any(|spelling| is_word(spelling, word))
+    let spelling = spellings[terminal].as_slice();
+    let mut earlier = spellings[..terminal].iter();
+    earlier.any(|other| other.as_slice() == spelling)
 }
 
 /// The first terminal that is spelled like an earlier one.
 pub(crate) fn first_repeated(spellings: &[Spelling]) -> Option<usize>
     ensures { FirstOf 0 (length spellings.now) (Repeated (words spellings.now)) result }
 {
-    for (t, spelling) in spellings.iter().enumerate() {
-        if has_word(&spellings[..t], spelling.as_slice()) {
-            return Some(t);
-        }
-    }
-    None
+    (0..spellings.len()).find(|terminal| is_repeated(spellings, *terminal))
 }

@@ -9,7 +9,7 @@ ghost use Rattle.grammar.specs.Refusals.{FirstFault};
 
 use crate::fault::GrammarFault;
 use crate::few::Few;
-use crate::header::Header;
+use crate::header::{Header, rules_end};
 use crate::rule::Rule;
 
 /// Whether all bytes are symbols, of which there are so many.
@@ -28,27 +28,17 @@ fn are_blank(bytes: &[u8]) -> bool
 
 impl Rule {
     /// The rule that nine bytes say, unless they are ill-formed.
-    pub(crate) fn read(block: &[u8], header: Header) -> Option<Rule>
-        requires { length block.now ≡ 9 }
+    fn read(block: &[u8; 9], header: Header) -> Option<Rule>
         ensures { MatchOption result (IllFormed header.terminals (header.terminals + header.nonterminals) block.now) (λ p. (rule_block p ≡ block.now) × (IllFormed header.terminals (header.terminals + header.nonterminals) block.now → ⊥)) }
     {
         let left = block[0];
         let length = block[1];
         let symbols = header.symbols();
-        if left < header.terminals {
-            return None;
-        }
-        if left >= symbols {
-            return None;
-        }
-        if length > 7 {
+        if left < header.terminals || left >= symbols || length > 7 {
             return None;
         }
         let (right, past) = block[2..].split_at(usize::from(length));
-        if !are_symbols(right, symbols) {
-            return None;
-        }
-        if !are_blank(past) {
+        if !are_symbols(right, symbols) || !are_blank(past) {
             return None;
         }
         Some(Rule {
@@ -68,12 +58,9 @@ pub(crate) fn read_rules(sheet: &[u8], header: Header) -> Result<Few<Rule, 64>, 
         right: Few::over([255; 7]),
     };
     let mut rules = Few::over([blank; 64]);
-    // By number: a fault names its rule.
-    for r in 0..usize::from(header.rules) {
-        let at = 12 + 9 * r;
-        let Some(rule) = Rule::read(&sheet[at..at + 9], header) else {
-            return Err(GrammarFault::RuleForm { rule: r });
-        };
+    let (blocks, _) = sheet[12..usize::from(rules_end(header.rules))].as_chunks();
+    for (r, block) in blocks.iter().enumerate() {
+        let rule = Rule::read(block, header).ok_or(GrammarFault::RuleForm { rule: r })?;
         rules.push(rule);
     }
     Ok(rules)

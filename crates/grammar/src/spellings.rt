@@ -10,21 +10,15 @@ ghost use Rattle.grammar.specs.Refusals.{FirstFault};
 
 use crate::fault::GrammarFault;
 use crate::few::Few;
-use crate::header::Header;
+use crate::header::{Header, rules_end};
 use crate::spelling::Spelling;
 
 /// One spelling, and the sheet that remains behind it; none where the sheet ends before.
 fn read_spelling(sheet: &[u8]) -> Option<(&[u8], &[u8])>
     ensures { MatchOption result (length sheet.now ≤ slice_index sheet.now 0) (λ p. (slice_index sheet.now 0 < length sheet.now) × (p.0.now ≡ first_spelling sheet.now) × (p.1.now ≡ behind_spelling sheet.now)) }
 {
-    let [length, rest @ ..] = sheet else {
-        return None;
-    };
-    let length = usize::from(*length);
-    if length > rest.len() {
-        return None;
-    }
-    Some(rest.split_at(length))
+    let (length, rest) = sheet.split_first()?;
+    rest.split_at_checked(usize::from(*length))
 }
 
 /// Whether the byte may stand in a spelling: a visible character other than `#`.
@@ -41,13 +35,6 @@ fn are_letters(bytes: &[u8]) -> bool
     bytes.iter().all(|byte| is_letter(*byte))
 }
 
-/// Whether all bytes are digits.
-fn are_digits(bytes: &[u8]) -> bool
-    ensures { MatchBool result (AllDigits bytes.now) (AllDigits bytes.now → ⊥) }
-{
-    bytes.iter().all(|byte| byte.is_ascii_digit())
-}
-
 /// Whether the bytes may spell the terminal.
 fn may_spell(bytes: &[u8], terminal: usize) -> bool
     ensures { MatchBool result (IllSpelled terminal bytes.now → ⊥) (IllSpelled terminal bytes.now) }
@@ -55,16 +42,10 @@ fn may_spell(bytes: &[u8], terminal: usize) -> bool
     if terminal == 0 {
         return bytes.is_empty();
     }
-    if bytes.is_empty() {
+    if bytes.is_empty() || bytes.len() > 12 || !are_letters(bytes) {
         return false;
     }
-    if bytes.len() > 12 {
-        return false;
-    }
-    if !are_letters(bytes) {
-        return false;
-    }
-    !are_digits(bytes)
+    !bytes.iter().all(u8::is_ascii_digit)
 }
 
 /// The spellings of the sheet, one for each terminal.
@@ -79,12 +60,12 @@ pub(crate) fn read_spellings(
     let terminals = usize::from(header.terminals);
     let blank: Spelling = Few::over([0; 12]);
     let mut spellings = Few::over([blank; 40]);
-    let mut rest = &sheet[12 + 9 * usize::from(header.rules)..];
+    let mut rest = &sheet[usize::from(rules_end(header.rules))..];
     // By number: each spelling begins where the one before it ends.
     for t in 0..terminals {
-        let Some((bytes, remains)) = read_spelling(rest) else {
-            return Err(GrammarFault::SpellingForm { terminal: t });
-        };
+        let (bytes, remains) = read_spelling(rest).ok_or(GrammarFault::SpellingForm {
+            terminal: t,
+        })?;
         if !may_spell(bytes, t) {
             return Err(GrammarFault::SpellingForm { terminal: t });
         }

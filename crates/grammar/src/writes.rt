@@ -1,14 +1,14 @@
 //! Writing a grammar sheet.
 ghost use Rattle.std.specs.Prelude.{◌≡◌, ◌+◌, ◌≤◌, length, MatchResult, sum_by};
-ghost use Rattle.grammar_format.specs.Sheets.{sheet_bytes, rules_bytes, spellings_bytes, rules_end};
-ghost use Rattle.parsing.specs.Grammar.{rule_count};
+ghost use Rattle.grammar_format.specs.Sheets.{sheet_bytes, rules_bytes, spellings_bytes};
 ghost use Rattle.grammar.specs.Holding.{rule_block, spelling_piece};
 ghost use Rattle.grammar.specs.Lists.{items};
-ghost use Rattle.grammar.specs.Meaning.{meaning, sheet};
+ghost use Rattle.grammar.specs.Meaning.{sheet};
 ghost use Rattle.grammar.specs.Writing.{Put, Writes, Short, Rewrites};
 
 use crate::fault::GrammarFault;
 use crate::grammar::Grammar;
+use crate::header::rules_end;
 use crate::rule::Rule;
 use crate::spelling::Spelling;
 use sheet_head::head_bytes;
@@ -27,24 +27,24 @@ impl Rule {
     }
 }
 
-/// Puts some bytes into the room from an offset on.
-fn put(room: &mut [u8], at: usize, bytes: &[u8])
-    requires { at + length bytes.now ≤ length room.old }
-    ensures { Put room.old at bytes.now room.new }
+/// Puts some bytes to the front of the room.
+fn put(room: &mut [u8], bytes: &[u8])
+    requires { length bytes.now ≤ length room.old }
+    ensures { Put room.old 0 bytes.now room.new }
 {
-    room[at..at + bytes.len()].copy_from_slice(bytes);
+    room[..bytes.len()].copy_from_slice(bytes);
 }
 
-/// Puts the length of the spelling and its bytes from an offset on, and answers the offset behind them.
-fn put_spelling(room: &mut [u8], at: usize, spelling: &Spelling) -> usize
-    requires { at + length (spelling_piece spelling.now) ≤ length room.old }
-    ensures next { result ≡ at + length (spelling_piece spelling.now) }
-    ensures put { Put room.old at (spelling_piece spelling.now) room.new }
+/// Puts the length of the spelling and its bytes to the front of the room, and answers how many bytes these are.
+fn put_spelling(room: &mut [u8], spelling: &Spelling) -> usize
+    requires { length (spelling_piece spelling.now) ≤ length room.old }
+    ensures size { result ≡ length (spelling_piece spelling.now) }
+    ensures put { Put room.old 0 (spelling_piece spelling.now) room.new }
 {
     let letters = spelling.as_slice();
-    put(room, at, &[spelling.count()]);
-    put(room, at + 1, letters);
-    at + 1 + letters.len()
+    put(room, &[spelling.count()]);
+    put(&mut room[1..], letters);
+    1 + letters.len()
 }
 
 /// How many bytes the spellings have in a sheet.
@@ -59,24 +59,24 @@ fn spellings_len(spellings: &[Spelling]) -> u16
 }
 
 impl Grammar {
-    /// Puts the rules behind the header.
+    /// Puts the rules to the front of the room.
     fn put_rules(&self, room: &mut [u8])
-        requires { rules_end (rule_count (meaning self.now)) ≤ length room.old }
-        ensures { Put room.old 12 (rules_bytes (sheet self.now)) room.new }
+        requires { length (rules_bytes (sheet self.now)) ≤ length room.old }
+        ensures { Put room.old 0 (rules_bytes (sheet self.now)) room.new }
     {
         for (r, rule) in self.rules.as_slice().iter().enumerate() {
-            put(room, 12 + 9 * r, &rule.block());
+            put(&mut room[9 * r..], &rule.block());
         }
     }
 
-    /// Puts the spellings from an offset on.
-    fn put_spellings(&self, room: &mut [u8], start: usize)
-        requires { start + length (spellings_bytes (sheet self.now)) ≤ length room.old }
-        ensures { Put room.old start (spellings_bytes (sheet self.now)) room.new }
+    /// Puts the spellings to the front of the room.
+    fn put_spellings(&self, room: &mut [u8])
+        requires { length (spellings_bytes (sheet self.now)) ≤ length room.old }
+        ensures { Put room.old 0 (spellings_bytes (sheet self.now)) room.new }
     {
-        let mut at = start;
+        let mut at = 0;
         for spelling in self.spellings.as_slice() {
-            at = put_spelling(room, at, spelling);
+            at += put_spelling(&mut room[at..], spelling);
         }
     }
 
@@ -85,7 +85,7 @@ impl Grammar {
         ensures value { result ≡ length (sheet_bytes (sheet self.now)) }
         ensures bound { result ≤ 1108 }
     {
-        12 + 9 * u16::from(self.rules()) + spellings_len(self.spellings.as_slice())
+        rules_end(self.rules()) + spellings_len(self.spellings.as_slice())
     }
 
     /// How many bytes the sheet of the grammar has.
@@ -109,14 +109,13 @@ impl Grammar {
         let terminals = u16::from(self.terminals());
         let nonterminals = u16::from(self.nonterminals);
         let rules = u16::from(self.rules());
-        let end = 12 + 9 * rules;
+        let end = rules_end(self.rules());
         put(
             room,
-            0,
             &head_bytes([size, terminals, nonterminals, rules, 12, end]),
         );
-        self.put_rules(room);
-        self.put_spellings(room, usize::from(end));
+        self.put_rules(&mut room[12..]);
+        self.put_spellings(&mut room[usize::from(end)..]);
         Ok(need)
     }
 }

@@ -1,8 +1,11 @@
 //! What is answered to a sheet.
+ghost use Rattle.std.specs.Prelude.{◌≤◌};
+
 use grammar::{Grammar, GrammarFault, Layer, Refusal, rewrite};
 use std::fmt;
 use std::process::Abort;
 
+// No `Result`: what is neither read nor refused rightly is a case too.
 /// The answer to a sheet.
 #[derive(Clone, Copy, PartialEq, Eq, Debug)]
 pub enum Answer {
@@ -42,37 +45,26 @@ const BLANK: u8 = 7;
 
 /// Whether the room begins with these bytes and is blank past them.
 fn holds(room: &[u8], bytes: &[u8]) -> bool {
-    let blank = [BLANK; 1200];
-    match room.get(bytes.len()..) {
-        Some(rest) => room.starts_with(bytes) && blank.starts_with(rest),
-        None => false,
-    }
+    let rest = room.strip_prefix(bytes);
+    rest.is_some_and(|rest| rest.iter().all(|byte| *byte == BLANK))
 }
 
-/// The answer that a call to write the sheet to a blank room gave, by its result and by what the room holds now.
-fn answered(res: Result<usize, GrammarFault>, room: &[u8], sheet: &[u8]) -> Answer {
-    match res {
+/// The answer as the sheet is written to a blank room of so many bytes.
+fn written<W: FnOnce(&[u8], &mut [u8]) -> Result<usize, GrammarFault>>(
+    sheet: &[u8],
+    length: usize,
+    write: W,
+) -> Answer
+    requires callable { W.IsAlwaysCallable write }
+    requires room { length ≤ 1200 }
+{
+    let mut blank = [BLANK; 1200];
+    let room = &mut blank[..length];
+    match write(sheet, room) {
         Ok(count) if count == sheet.len() && holds(room, sheet) => Answer::Read,
         Err(fault) if holds(room, &[]) => Answer::of(fault),
         _ => Answer::Strange,
     }
-}
-
-/// The answer as the sheet is read, and its grammar is then written to a blank room.
-fn written(sheet: &[u8], room: &mut [u8]) -> Answer {
-    match Grammar::read(sheet) {
-        Ok(grammar) => {
-            let result = grammar.write(room);
-            answered(result, room, sheet)
-        }
-        Err(fault) => Answer::of(fault),
-    }
-}
-
-/// The answer as the sheet is rewritten to a blank room.
-fn rewritten(sheet: &[u8], room: &mut [u8]) -> Answer {
-    let result = rewrite(sheet, room);
-    answered(result, room, sheet)
 }
 
 /// The answer to the sheet in a room of so many bytes, at most 1200. It must be the same by `read` and `write` as by `rewrite`.
@@ -80,10 +72,13 @@ pub fn answer_in(sheet: &[u8], length: usize) -> Answer {
     if length > 1200 {
         return Answer::Strange;
     }
-    let mut room = [BLANK; 1200];
-    let answer = written(sheet, &mut room[0..length]);
-    let mut room = [BLANK; 1200];
-    if rewritten(sheet, &mut room[0..length]) == answer {
+    let answer = written(sheet, length, |sheet, room| rewrite(sheet, room));
+    let by_parts = written(
+        sheet,
+        length,
+        |sheet, room| Grammar::read(sheet)?.write(room),
+    );
+    if by_parts == answer {
         answer
     } else {
         Answer::Strange

@@ -3,6 +3,7 @@ use crate::answers::Answer::*;
 use crate::answers::{Answer, check_answer};
 use crate::sheets::Draft;
 use crate::tables::{Changed, check_changed, spelled};
+use std::process::Abort;
 
 /// Short sheets that tell their own length: nothing, eleven bytes, and a header alone.
 static SHORT: [(&[u8], Answer); 3] = [
@@ -45,11 +46,16 @@ static HEADERS: [Changed; 25] = [
     ("offsets before rules", &[(9, 13), (12, 0)], Refused(12, 0)),
 ];
 
+/// The short sheets have their answers.
+fn check_short(rt: &impl Abort) {
+    for (sheet, answer) in &SHORT {
+        check_answer(rt, sheet, *answer, sheet.len());
+    }
+}
+
 #[test]
 fn headers_tell_the_length_the_counts_and_the_offsets(rt: HostRuntime) {
-    for (sheet, answer) in &SHORT {
-        check_answer(&rt, sheet, *answer, sheet.len());
-    }
+    check_short(&rt);
     check_changed(&rt, &HEADERS);
 }
 

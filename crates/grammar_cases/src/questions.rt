@@ -1,6 +1,6 @@
 //! What a grammar answers.
-use crate::sheets::{P, Q};
 use grammar::Grammar;
+use sample_sheets::{P, Q};
 use std::array;
 use std::process::Abort;
 use std::test::Fail;
@@ -49,6 +49,7 @@ fn rule_of(grammar: &Grammar, rule: usize) -> Rule {
     (rule, grammar.left(rule), grammar.length(rule), right)
 }
 
+// Not one loop with `check_spellings`: a rule is asked for four things, a terminal for one.
 /// The grammar has these rules.
 fn check_rules(rt: &impl Abort, grammar: &Grammar, rules: &[Rule]) {
     for rule in rules {
@@ -71,9 +72,7 @@ fn check_grammar(
     rules: &[Rule],
     spellings: &[Spelling],
 ) -> Result<(), Fail> {
-    let Ok(grammar) = Grammar::read(sheet) else {
-        return Err(Fail::new("it is refused"));
-    };
+    let grammar = Grammar::read(sheet)?;
     let told = (grammar.terminals(), grammar.nonterminals(), grammar.rules());
     assert_eq!(rt; (told, grammar.sheet_len()), (counts, sheet.len()));
     check_rules(rt, &grammar, rules);

@@ -1,7 +1,7 @@
 //! Sheets are written where there is room for them; a shorter room is refused with 31 and the need.
 use crate::answers::Answer::*;
 use crate::answers::answer_in;
-use crate::sheets::{P, Q};
+use sample_sheets::{P, Q};
 use std::process::Abort;
 
 /// The sheet is written to a room of as many bytes as it has and to longer ones, and to no shorter one.

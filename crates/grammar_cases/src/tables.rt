@@ -1,6 +1,7 @@
 //! Tables of cases: what a case is about, a sheet, and the answer to it.
 use crate::answers::{Answer, check_answer};
-use crate::sheets::{Draft, P};
+use crate::sheets::Draft;
+use sample_sheets::P;
 use std::process::Abort;
 
 /// The sheet is P with other bytes at some offsets.
@@ -48,6 +49,7 @@ pub fn spelled(terminals: u8, spellings: &[&str]) -> Draft {
     draft
 }
 
+// Three loops of one call each: a case of each kind has a sheet of its own making.
 /// Each of these sheets has its answer.
 pub fn check_changed(rt: &impl Abort, cases: &[Changed]) {
     for (what, changes, answer) in cases {

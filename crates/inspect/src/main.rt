@@ -4,7 +4,7 @@
 #[cfg(test)]
 mod tests;
 
-use file_bytes::bytes_of;
+use file_bytes::{bytes_of, told};
 use inspection::report;
 use std::io;
 
@@ -14,9 +14,5 @@ fn run(rt: &HostRuntime) -> io::Result<()> {
 }
 
 fn main(rt: HostRuntime) -> io::Result<()> {
-    let result = run(&rt);
-    if let Err(e) = &result {
-        eprintln!(rt; "inspect: grammar.bin: {e}")?;
-    }
-    result
+    told(&rt, "inspect: grammar.bin", run(&rt))
 }

@@ -1,16 +1,8 @@
 //! Reports of a small sheet, and of the same sheet with one thing wrong.
 use grammar::GrammarFault;
 use inspection::report;
+use sample_sheets::P;
 use std::test::Fail;
-
-/// The terminals amount, tea and `and`; the rules goal -> blend, blend -> amount tea, blend -> blend and blend.
-/// A line for the header, for each rule, and for the spellings.
-const SMALL: &[u8; 48] = b"\
-\x00\x30\x00\x03\x00\x02\x00\x03\x00\x0c\x00\x27\
-\x03\x01\x04\xff\xff\xff\xff\xff\xff\
-\x04\x02\x00\x01\xff\xff\xff\xff\xff\
-\x04\x03\x04\x02\x04\xff\xff\xff\xff\
-\x00\x03tea\x03and";
 
 const SMALL_REPORT: &str = "terminals: 3
   0  amount
@@ -106,7 +98,7 @@ const CASES: [Case; 11] = [
 
 /// The small sheet with some bytes of its own.
 fn changed(at: usize, bytes: &[u8]) -> [u8; 48] {
-    let mut sheet = *SMALL;
+    let mut sheet = P;
     for (place, byte) in sheet.iter_mut().skip(at).zip(bytes) {
         *place = *byte;
     }
@@ -115,7 +107,7 @@ fn changed(at: usize, bytes: &[u8]) -> [u8; 48] {
 
 #[test]
 fn lists_a_good_sheet(rt: HostRuntime) -> Result<(), Fail> {
-    let text = report(rt.alloc(), SMALL)?;
+    let text = report(rt.alloc(), &P)?;
     assert_eq!(rt; text.as_str(), SMALL_REPORT);
     Ok(())
 }

@@ -1,7 +1,7 @@
 //! Reports of the small table, and of tables with one thing wrong.
 use grammar::Grammar;
 use inspection::report;
-use sample_sheets::{CHAINS, P, P_TABLE};
+use sample_sheets::{CHAINS, P, P_IDLE, P_SECOND_FOUR, P_TABLE};
 use std::process::Abort;
 use std::test::Fail;
 use table_inspection::{full_report, table_report};
@@ -33,42 +33,6 @@ state 5
   start -> start and start •
   by and to 4
 ";
-
-/// The table with a second state for the items of state 4, which state 5 steps to.
-static SECOND_FOUR: [u8; 68] = *b"\
-    \x00\x44\x00\x07\x00\x05\x00\x03\x00\x0c\x00\x2f\
-    \x01\xff\xff\xff\x02\
-    \xff\x03\xff\xff\xff\
-    \xff\xff\x04\xff\xff\
-    \xff\xff\xff\xff\xff\
-    \x01\xff\xff\xff\x05\
-    \xff\xff\x06\xff\xff\
-    \x01\xff\xff\xff\x05\
-    \x00\x00\x00\
-    \x00\x00\x00\
-    \x01\x00\x00\
-    \x00\x01\x00\
-    \x00\x00\x00\
-    \x00\x00\x01\
-    \x00\x00\x00";
-
-/// The table with a state that nothing leads to.
-static IDLE: [u8; 68] = *b"\
-    \x00\x44\x00\x07\x00\x05\x00\x03\x00\x0c\x00\x2f\
-    \x01\xff\xff\xff\x02\
-    \xff\x03\xff\xff\xff\
-    \xff\xff\x04\xff\xff\
-    \xff\xff\xff\xff\xff\
-    \x01\xff\xff\xff\x05\
-    \xff\xff\x04\xff\xff\
-    \xff\xff\xff\xff\xff\
-    \x00\x00\x00\
-    \x00\x00\x00\
-    \x01\x00\x00\
-    \x00\x01\x00\
-    \x00\x00\x00\
-    \x00\x00\x01\
-    \x00\x00\x00";
 
 /// Bytes that are put into the small table, and what is then reported: the first line, and how the words begin.
 #[derive(Clone, Copy)]
@@ -145,8 +109,8 @@ const CASES: [Case; 10] = [
 /// The small table with a byte of its own.
 fn changed(at: usize, byte: u8) -> [u8; 60] {
     let mut sheet = P_TABLE;
-    if at < 60 {
-        sheet[at] = byte;
+    if let Some(place) = sheet.get_mut(at) {
+        *place = byte;
     }
     sheet
 }
@@ -159,25 +123,22 @@ fn begins(rt: &(impl Abort + AllocGlobal), sheet: &[u8], begin: &str) -> Result<
     Ok(())
 }
 
-#[test]
-fn lists_a_table_that_passes(rt: HostRuntime) -> Result<(), Fail> {
+/// The report of the small grammar and this table lists the states, and tells how the table was had.
+fn check_both(rt: &(impl Abort + AllocGlobal), table: &[u8], how: &str) -> Result<(), Fail> {
     let first = report(rt.alloc(), &P)?;
-    let both = format!(in rt.alloc(); "{first}{STATES}supplied: 60 bytes, they pass the check\n")?;
-    assert_eq!(rt;
-        full_report(rt.alloc(), &P, &P_TABLE)?.as_str(),
-        both.as_str()
-    );
+    let both = format!(in rt.alloc(); "{first}{STATES}{how}: 60 bytes, they pass the check\n")?;
+    assert_eq!(rt; full_report(rt.alloc(), &P, table)?.as_str(), both.as_str());
     Ok(())
 }
 
 #[test]
+fn lists_a_table_that_passes(rt: HostRuntime) -> Result<(), Fail> {
+    check_both(&rt, &P_TABLE, "supplied")
+}
+
+#[test]
 fn builds_the_states_without_a_table(rt: HostRuntime) -> Result<(), Fail> {
-    let first = report(rt.alloc(), &P)?;
-    let both = format!(in rt.alloc();
-        "{first}{STATES}built and written: 60 bytes, they pass the check\n"
-    )?;
-    assert_eq!(rt; full_report(rt.alloc(), &P, &[])?.as_str(), both.as_str());
-    Ok(())
+    check_both(&rt, &[], "built and written")
 }
 
 #[test]
@@ -217,7 +178,7 @@ fn refuses_a_short_sheet(rt: HostRuntime) -> Result<(), Fail> {
 fn refuses_a_second_state_for_the_same_items(rt: HostRuntime) -> Result<(), Fail> {
     begins(
         &rt,
-        &SECOND_FOUR,
+        &P_SECOND_FOUR,
         "refused 27 table 5 2\nState 5 steps by `and` to state 6, which is new, while another state has the items wanted.\nThe items of state 5:\n",
     )
 }
@@ -226,7 +187,7 @@ fn refuses_a_second_state_for_the_same_items(rt: HostRuntime) -> Result<(), Fail
 fn refuses_an_idle_state(rt: HostRuntime) -> Result<(), Fail> {
     begins(
         &rt,
-        &IDLE,
+        &P_IDLE,
         "refused 29 table 6 0\nState 6 is not reached from state 0 by any steps.\nEvery state is reached from state 0 by steps.\n",
     )
 }

@@ -1,6 +1,5 @@
 -- Pieces that are written one after another.
 use Rattle.std.proofs.Common.{◌≡◌, ℕ, suc, ◌+◌, ◌-◌, ◌≤◌, List, [], ◌++◌, sym, refl, ap, ◌∙◌, arith}
-use native.Mathlib.Decide.{dec_le}
 use Rattle.std.specs.declared.fmt.Formatter.{Formatter}
 use Rattle.std.specs.Fmt.{IsPlainFormatter, HasWritten}
 use Rattle.std.proofs.Output.{has_written_append, has_written_of_eq}
@@ -20,10 +19,6 @@ next F low k h =
     let e : low + (k - low) ≡ k = omega arith in
     let n : suc (k - low) ≡ k + 1 - low = omega arith in
     ap (λ x. each F low (k - low) ++ F x) (sym e) ∙ more F low (k - low) ∙ ap (each F low) n
-
--- Where a loop from low up to high stands when it is over.
-pub ended : (low high k : ℕ) → low ≤ k → high ≤ k → (low ≤ high → k ≤ high) → (high ≤ low → k ≡ low) → k - low ≡ high - low
-ended low high k h e to stay = elim (dec_le low high) [ yes l ↦ omega (arith, to l) | no l ↦ omega (arith, stay (omega arith)) ]
 
 module _ {W : Type 0} (took : W → List ℕ → W → Type 0) (F : ℕ → List ℕ) (low : ℕ) where
   pub each_none : (f : Formatter W) → IsPlainFormatter f → HasWritten took f (each F low (low - low)) f

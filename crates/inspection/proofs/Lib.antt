@@ -1,3 +1,4 @@
+pub mod Indents
 pub mod Joining
 pub mod Keepers
 pub mod Naming

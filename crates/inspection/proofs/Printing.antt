@@ -4,7 +4,7 @@ use borrow.Author.Tests.{both_ways}
 use Rattle.std.specs.declared.fmt.Error.{Error}
 use Rattle.std.specs.declared.fmt.Formatter.{Formatter}
 use Rattle.std.specs.Fmt.{IsPlainFormatter, HasWritten, WritesOnOk, DisplaysOnOk, option_append}
-use Rattle.std.proofs.Output.{writes_in_calls_nil}
+use Rattle.std.proofs.Output.{writes_in_calls_nil, has_written_of_eq}
 
 module _ {W : Type 0} (took : W → List ℕ → W → Type 0) where
   pub put_none : (f : Formatter W) → IsPlainFormatter f → HasWritten took f [] f
@@ -19,3 +19,10 @@ module _ {W : Type 0} (took : W → List ℕ → W → Type 0) where
       → b ≡ true → DisplaysOnOk took f r (option_append (cond b (Some bs) None) (Some ds)) g → WritesOnOk took f r (bs ++ ds) g
   prints_if f g r true bs ds e h = h
   prints_if f g r false bs ds e h = absurd (both_ways false refl e)
+
+  -- Where the text is shown, it stands behind two others.
+  pub shows_behind : (f g : Formatter W) (r : Result (Unit {0}) Error) (b : Bool) (first second shown whole : List ℕ) → first ++ (second ++ shown) ≡ whole
+      → DisplaysOnOk took f r (option_append (Some first) (option_append (Some second) (cond b (Some shown) None))) g
+      → DisplaysOnOk took f r (cond b (Some whole) None) g
+  shows_behind f g r true first second shown whole e h = λ plain ok. has_written_of_eq took f (first ++ (second ++ shown)) whole g e (h plain ok)
+  shows_behind f g r false first second shown whole e h = tt

@@ -24,35 +24,49 @@ impl fmt::Display for Numbers<'_> {
 }
 
 impl Explanation<'_> {
-    /// The line on what is wrong with a header.
-    fn explain_header<W: fmt::Write>(&self, f: &mut fmt::Formatter<W>) -> fmt::Result {
+    /// The line on the length of the sheet.
+    fn explain_length<W: fmt::Write>(&self, f: &mut fmt::Formatter<W>) -> fmt::Result {
         let size = self.sheet.len();
+        if size < 12 {
+            return writeln!(
+                f,
+                "The length of the sheet is {size}, too little for a header."
+            );
+        }
+        let Header { length, .. } = Header::of(self.sheet);
+        writeln!(
+            f,
+            "The length of the sheet is {size}, and its header tells {length}."
+        )
+    }
+
+    /// The line on the counts in the header.
+    fn explain_counts<W: fmt::Write>(&self, f: &mut fmt::Formatter<W>) -> fmt::Result {
         let Header {
-            length,
             terminals,
             nonterminals,
             rules,
+            ..
+        } = Header::of(self.sheet);
+        writeln!(
+            f,
+            "The header tells terminals: {terminals}, nonterminals: {nonterminals}, rules: {rules}."
+        )
+    }
+
+    /// The line on the offsets in the header.
+    fn explain_offsets<W: fmt::Write>(&self, f: &mut fmt::Formatter<W>) -> fmt::Result {
+        let size = self.sheet.len();
+        let Header {
+            rules,
             rules_at,
             spellings_at,
+            ..
         } = Header::of(self.sheet);
-        match self.fault {
-            GrammarFault::CountRange => writeln!(
-                f,
-                "The header tells terminals: {terminals}, nonterminals: {nonterminals}, rules: {rules}."
-            ),
-            GrammarFault::Offset => writeln!(
-                f,
-                "The header tells rules: {rules}, from byte {rules_at} on, and spellings from byte {spellings_at} on; the length of the sheet is {size}."
-            ),
-            _ if size < 12 => writeln!(
-                f,
-                "The length of the sheet is {size}, too little for a header."
-            ),
-            _ => writeln!(
-                f,
-                "The length of the sheet is {size}, and its header tells {length}."
-            ),
-        }
+        writeln!(
+            f,
+            "The header tells rules: {rules}, from byte {rules_at} on, and spellings from byte {spellings_at} on; the length of the sheet is {size}."
+        )
     }
 
     /// The line on what is wrong with a rule.
@@ -102,6 +116,9 @@ impl Explanation<'_> {
     /// The line on what is wrong, and where.
     fn explain<W: fmt::Write>(&self, f: &mut fmt::Formatter<W>) -> fmt::Result {
         match self.fault {
+            GrammarFault::WholeLength => self.explain_length(f),
+            GrammarFault::CountRange => self.explain_counts(f),
+            GrammarFault::Offset => self.explain_offsets(f),
             GrammarFault::RuleForm { rule } | GrammarFault::GoalRule { rule } => self.explain_rule(
                 f, rule,
             ),
@@ -121,7 +138,6 @@ impl Explanation<'_> {
                 f,
                 "The room to write the sheet has fewer than {need} bytes."
             ),
-            _ => self.explain_header(f),
         }
     }
 

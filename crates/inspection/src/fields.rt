@@ -21,6 +21,7 @@ impl Header {
     pub(crate) fn of(sheet: &[u8]) -> Header
         ensures { 12 ≤ length sheet.now → Tells sheet.now result }
     {
+        // Zeros and not none: reading gives no fault that shows the numbers of so short a sheet.
         let numbers = read_head(sheet).unwrap_or([0; 6]);
         let [
             length,

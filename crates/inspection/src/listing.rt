@@ -1,26 +1,13 @@
 //! All that a grammar sheet says, a line for each symbol and each rule.
-ghost use Rattle.std.specs.Prelude.{◌≡◌, ◌-◌, Some};
+ghost use Rattle.std.specs.Prelude.{◌-◌, Some};
 ghost use Rattle.grammar.specs.Meaning.{sheet};
-ghost use Rattle.inspection.specs.Listings.{indent as blanks, lines, symbol_line, rule_line, lines_of_rules, listing};
+ghost use Rattle.inspection.specs.Listings.{lines, symbol_line, rule_line, lines_of_rules, listing};
 ghost use Rattle.inspection.specs.Rules.{if_rule};
 
 use crate::name::Name;
 use crate::rule::RuleText;
 use grammar::Grammar;
 use std::fmt;
-
-/// The blanks before a number that is shown in three places.
-fn indent(number: usize) -> &'static str
-    ensures { result.now ≡ blanks number }
-{
-    if number < 10 {
-        "  "
-    } else if number < 100 {
-        " "
-    } else {
-        ""
-    }
-}
 
 /// A symbol with its number, as `  1  tea`.
 #[derive(Clone, Copy)]
@@ -34,9 +21,8 @@ impl fmt::Display for SymbolLine<'_> {
 
     fn fmt<W: fmt::Write>(&self, f: &mut fmt::Formatter<W>) -> fmt::Result {
         let symbol = self.symbol;
-        let before = indent(usize::from(symbol));
         let name = Name::of(self.grammar, symbol);
-        write!(f, "{before}{symbol}  {name}")
+        write!(f, "{symbol:>3}  {name}")
     }
 }
 
@@ -52,9 +38,8 @@ impl fmt::Display for RuleLine<'_> {
 
     fn fmt<W: fmt::Write>(&self, f: &mut fmt::Formatter<W>) -> fmt::Result {
         let RuleLine { grammar, rule } = *self;
-        let before = indent(rule);
         let text = RuleText { grammar, rule };
-        write!(f, "{before}{rule}  {text}")
+        write!(f, "{rule:>3}  {text}")
     }
 }
 
@@ -71,7 +56,7 @@ impl fmt::Display for SymbolLines<'_> {
 
     fn fmt<W: fmt::Write>(&self, f: &mut fmt::Formatter<W>) -> fmt::Result {
         let grammar = self.grammar;
-        // A loop of its own, as each list here has: a trait of numbered pieces would want a struct and an impl for each.
+        // Not one function for all lists: it would take a closure, and a public one that does would have to ask that it can be called.
         for symbol in self.from..self.to {
             writeln!(f, "{}", SymbolLine { grammar, symbol })?;
         }
@@ -90,7 +75,6 @@ impl fmt::Display for RuleLines<'_> {
 
     fn fmt<W: fmt::Write>(&self, f: &mut fmt::Formatter<W>) -> fmt::Result {
         let grammar = self.grammar;
-        // A loop of its own, as each list here has: a trait of numbered pieces would want a struct and an impl for each.
         for rule in 0..usize::from(grammar.rules()) {
             writeln!(f, "{}", RuleLine { grammar, rule })?;
         }
@@ -120,7 +104,7 @@ impl fmt::Display for Listing<'_> {
         let nonterminal_lines = SymbolLines {
             grammar,
             from: terminals,
-            to: terminals.saturating_add(nonterminals),
+            to: grammar.symbols(),
         };
         let rule_lines = RuleLines { grammar };
         write!(

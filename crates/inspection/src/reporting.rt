@@ -2,14 +2,13 @@
 ghost use Rattle.std.specs.Prelude.{◌≡◌, ℕ, true, List, ◌++◌, length, IfOk, Some, string_bytes, codes, Decides};
 ghost use Rattle.grammar_format.specs.Sheets.{sheet_bytes};
 ghost use Rattle.grammar.specs.Meaning.{sheet as sheet_of};
-ghost use Rattle.grammar.specs.Refusals.{refusal};
 ghost use Rattle.grammar.specs.Lines.{refusal_line};
 ghost use Rattle.inspection.specs.Listings.{listing as listing_of};
 ghost use Rattle.inspection.specs.Reports.{Report, verdict_text, closing_line};
 
 use crate::explanation::Explanation;
 use crate::listing::Listing;
-use grammar::{Grammar, GrammarFault};
+use grammar::{Grammar, Refusal};
 use std::alloc::{AllocError, Global};
 use std::fmt;
 
@@ -17,6 +16,7 @@ use std::fmt;
 fn is_written_back(grammar: &Grammar, room: &mut [u8], sheet: &[u8]) -> bool
     ensures { length room.old ≡ length sheet.now → Decides result (sheet_bytes (sheet_of grammar.now) ≡ sheet.now) }
 {
+    // Not `*room` or `room[..]`: the check finds the proof for a slice from 0 on only.
     grammar.write(room) == Ok(sheet.len()) && &room[0..] == sheet
 }
 
@@ -24,9 +24,10 @@ fn is_written_back(grammar: &Grammar, room: &mut [u8], sheet: &[u8]) -> bool
 fn verdict(same: bool) -> &'static str
     ensures { result.now ≡ verdict_text same }
 {
-    match same {
-        true => "equal to the sheet",
-        false => "not equal to the sheet",
+    if same {
+        "equal to the sheet"
+    } else {
+        "not equal to the sheet"
     }
 }
 
@@ -43,7 +44,7 @@ impl fmt::Display for WrittenBack {
     fn fmt<W: fmt::Write>(&self, f: &mut fmt::Formatter<W>) -> fmt::Result {
         let size = self.size;
         let told = verdict(self.same);
-        write!(f, "written back: {size} bytes, {told}\n")
+        writeln!(f, "written back: {size} bytes, {told}")
     }
 }
 
@@ -59,13 +60,16 @@ fn listed(heap: Global, grammar: &Grammar, sheet: &[u8]) -> Result<String, Alloc
     format!(in heap; "{listing}{closing}")
 }
 
-/// The report of a sheet that has a fault.
-fn refused(heap: Global, fault: GrammarFault, sheet: &[u8]) -> Result<String, AllocError>
-    ensures { IfOk result (λ text. (words : List ℕ) × (string_bytes text ≡ refusal_line (refusal fault) ++ (codes "\n" ++ words))) }
+/// The report of a refusal: its line, and then the words of an explanation.
+pub fn refusal_report<E: fmt::Display>(
+    heap: Global,
+    refusal: Refusal,
+    explanation: &E,
+) -> Result<String, AllocError>
+    ensures { IfOk result (λ text. (words : List ℕ) × (string_bytes text ≡ refusal_line refusal ++ (codes "\n" ++ words))) }
 {
-    let line = fault.refusal();
-    let words = Explanation { fault, sheet }.to_string(heap)?;
-    format!(in heap; "{line}\n{words}")
+    let words = explanation.to_string(heap)?;
+    format!(in heap; "{refusal}\n{words}")
 }
 
 /// What `inspect` prints of a sheet.
@@ -74,6 +78,6 @@ pub fn report(heap: Global, sheet: &[u8]) -> Result<String, AllocError>
 {
     match Grammar::read(sheet) {
         Ok(grammar) => listed(heap, &grammar, sheet),
-        Err(fault) => refused(heap, fault, sheet),
+        Err(fault) => refusal_report(heap, fault.refusal(), &Explanation { fault, sheet }),
     }
 }

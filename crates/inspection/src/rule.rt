@@ -28,7 +28,7 @@ impl fmt::Display for RightSymbols<'_> {
     ghost output = { λ x. Some (each (right_piece (sheet x.grammar.now) x.rule) x.from (x.to - x.from)) };
 
     fn fmt<W: fmt::Write>(&self, f: &mut fmt::Formatter<W>) -> fmt::Result {
-        // A loop of its own, as each list here has: a trait of numbered pieces would want a struct and an impl for each.
+        // Not one function for all lists: it would take a closure, and a public one that does would have to ask that it can be called.
         for place in self.from..self.to {
             let symbol = Name::of(self.grammar, self.grammar.right(self.rule, place));
             write!(f, " {symbol}")?;

@@ -4,7 +4,7 @@
 ghost use Rattle.link_growth.specs.Counting.{Counting};
 
 /// A link of the graph-structured stack: the state at its place stands on the state below, at the place below.
-#[derive(Clone, Copy, Debug, PartialEq, Eq)]
+#[derive(Clone, Copy, Debug, Default, PartialEq, Eq)]
 pub struct Link {
     pub state: u8,
     pub place: u8,

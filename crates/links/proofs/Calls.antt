@@ -1,5 +1,5 @@
 -- What the calls on links do, from what their parts do.
-use Rattle.std.proofs.Common.{◌≡◌, ℕ, ◌-◌, ◌<◌, ◌≤◌, ◌≢◌, List, [], ◌∷◌, ◌++◌, length, Some, None, Ok, Err, sym, refl, ap, ◌∙◌, subst, arith}
+use Rattle.std.proofs.Common.{◌≡◌, ℕ, ◌-◌, ◌<◌, ◌≤◌, ◌≢◌, List, [], ◌∷◌, ◌++◌, length, Some, None, Ok, Err, Result, is_err, true, false, true≢false, sym, refl, ap, ◌∙◌, subst, arith}
 use Rattle.parsing.specs.Items.{Source}
 use Rattle.parsing.specs.Links.{LiveOf}
 use Rattle.link_growth.specs.Entries.{Has}
@@ -7,12 +7,13 @@ use Rattle.link_growth.specs.Growth.{Overfull, Shut, Stepped}
 use Rattle.link_growth.specs.Counting.{Exceeds, Steps}
 use Rattle.links.specs.declared.links.Links.{Links}
 use Rattle.links.specs.declared.table.Table.{Table}
+use Rattle.links.specs.declared.fault.TooManyLinks.{TooManyLinks as Many}
 use Rattle.links.specs.declared.fault.TakeFault.TheVariants.{TooManyWords, NoTerminal, NoStep, TooManyLinks}
-use Rattle.links.specs.Tables.{content, StartsAt, Along, Begun, Cut}
-use Rattle.links.specs.Holding.{Blank, Holds, Same, Ready, blank, holding, most, Took, full, foreign, stuck, crowded, taken}
+use Rattle.links.specs.Tables.{content, StartsAt, Along, Making, Begun, Cut}
+use Rattle.links.specs.Holding.{Blank, Holds, Same, Ready, blank, holding, most, Opened, Took, full, foreign, stuck, crowded, taken}
 use Rattle.links.proofs.Contents.{long}
 use Rattle.links.proofs.Keeps as keeps
-use Rattle.links.proofs.Keeps.{Held, cut_held, cut_fits, front_exceeds, live_here, here_live, undone}
+use Rattle.links.proofs.Keeps.{Held, cut_held, cut_fits, front_exceeds, live_here, here_live, undone, opened, not_opened}
 
 pub held : {src : Source} {ws : List ℕ} {l : Links} → Holds src ws l → Held src ws l.table
 held h = record { place = h.place; exact = h.exact }
@@ -37,6 +38,23 @@ module _ (src : Source) (l : Links) (n limit : ℕ) (a : StartsAt l.table 1 n) (
   again_opened m le c (blank b) = absurd (some b.place (blank_count b))
   again_opened m le c (holding ws h) =
       (holds m (cut_held ws l.table m.table 0 (omega arith) c (held h)), cut_fits ws l.table m.table 0 n limit (omega arith) c a (held h) le)
+
+-- Closing place 0 of a table that is blank.
+module _ (src : Source) (n : ℕ) (few : n ≤ 4096) (l : Links) (b : Blank l) where
+  most_is : n ≡ most n
+  most_is = omega (arith, few)
+
+  pub begun : (m : Links) (r : Result (Unit {0}) Many) → is_err r ≡ false → Making src None l.table m.table n r (Shut src l.table.place (content m.table)) → Opened src n l r m
+  begun m (Ok x) e (a, shut) = let r = opened b.links b.place (subst (λ v. Along src None l.table m.table v) most_is a) shut in (holds m r.0, r.1)
+  begun m (Err x) e p = absurd (true≢false e)
+
+  pub not_begun : (v m : Links) (r : Result (Unit {0}) Many) → is_err r ≡ true → content m.table ≡ [] → m.table.place ≡ 0
+      → Making src None l.table v.table n r (Shut src l.table.place (content v.table)) → Opened src n l r m
+  not_begun v m (Ok x) e links place p = absurd (true≢false (sym e))
+  not_begun v m (Err x) e links place (a, over) = (
+    not_opened l.table b.links (subst (λ z. Overfull src None l.table.place (content l.table) z) most_is over),
+    record { links = links ∙ sym b.links; place = place ∙ sym b.place },
+  )
 
 -- Taking a word.
 module _ (src : Source) (x limit : ℕ) (l : Links) (ws : List ℕ) (h : Holds src ws l) where

@@ -1,16 +1,17 @@
 -- What a table's bounds say of its content.
-use Rattle.std.proofs.Common.{◌≡◌, ℕ, ◌+◌, ◌<◌, ◌≤◌, List, [], ◌∷◌, ◌++◌, length, get_or, take, drop, Some, Ok, Err, Option, Result, sym, refl, ap, ◌∙◌, subst, ⊎_elim, arith, length-take-le, length-drop, get_or-take, MatchResult}
+use Rattle.std.proofs.Common.{◌≡◌, ℕ, ◌+◌, ◌<◌, ◌≤◌, List, [], ◌∷◌, ◌++◌, length, get_or, take, drop, Some, Ok, Err, Option, Result, sym, refl, ap, ◌∙◌, subst, ⊎_elim, arith, length-take-le, length-drop, get_or-take, MatchResult, is_err, true, false, true≢false}
 use Rattle.std.proofs.lemmas.Bool.{cases_lt}
 use Rattle.std.proofs.lemmas.List.{length_push, get_or-drop}
 use Rattle.parsing.specs.Items.{Source}
 use Rattle.parsing.specs.Links.{ChainOf, stay_of, down_of}
 use Rattle.link_growth.specs.declared.Link.{Link}
+use Rattle.link_growth.specs.declared.Cell.{Cell}
 use Rattle.link_growth.specs.Entries.{lnk, at, Small, Mem, Has}
 use Rattle.link_growth.specs.Growth.{Makes, shifts, reduces, Grown, same, add, Overfull, Laid}
 use Rattle.link_growth.proofs.Members.{mem_take, take_index, mem_last, mem_index, mem_parts}
 use Rattle.link_growth.proofs.Grows.{grown_long, grown_same, grown_front}
 use Rattle.links.specs.declared.table.Table.{Table}
-use Rattle.links.specs.Tables.{content, StartsAt, Kept, there, new, Placed, nowhere, somewhere, Turned}
+use Rattle.links.specs.Tables.{content, StartsAt, Kept, Added, Refused, StepsBy, there, new, Placed, nowhere, somewhere, Turned}
 
 pub long : (t : Table) → length (content t) ≡ t.count
 long t = length-take-le t.count t.links (omega (arith, t.room, t.few))
@@ -127,6 +128,17 @@ placed_has {j = j} {b = b} {i = i} {xs = xs} {ys = ys} (somewhere q n (new m e))
     let p : q ≡ s = cc in
     subst (λ v. Mem (lnk v j b i) ys) p (subst (λ v. Mem (lnk q j b i) v) (sym e) (mem_last xs (lnk q j b i)))
 
+-- The link of a step.
+pub there_already : {src : Source} {j x : ℕ} {c : Cell} {l : Link} {xs : List Link} → StepsBy src j x c (Some l) → Mem l xs → Placed src j x c.state c.place xs xs
+there_already {xs = xs} (s, n, e) m = somewhere s n (there (subst (λ v. Mem v xs) e m) refl)
+
+pub placed_by : {src : Source} {j x : ℕ} {c : Cell} {l : Link} {xs ys : List Link} → StepsBy src j x c (Some l) → Added xs ys l → Placed src j x c.state c.place xs ys
+placed_by {xs = xs} {ys = ys} (s, n, e) a = somewhere s n (subst (λ v. Added xs ys v) e a)
+
+pub turned_by : {src : Source} {j x limit : ℕ} {c : Cell} {l : Link} {xs ys : List Link} → StepsBy src j x c (Some l) → Refused xs ys l limit
+    → Turned src j x c.state c.place limit xs ys
+turned_by {limit = limit} {xs = xs} {ys = ys} (s, n, e) r = record { state = s; steps = n; refused = subst (λ v. Refused xs ys v limit) e r }
+
 pub turned_overfull : {src : Source} {w : Option ℕ} {j x b i limit : ℕ} {xs ys : List Link} → Turned src j x b i limit xs ys
     → ((s : ℕ) → src.next b x ≡ Some s → Makes src w j xs s b i) → Overfull src w j xs limit
 turned_overfull {j = j} {b = b} {i = i} {xs = xs} t f = record {
@@ -155,3 +167,12 @@ either (Err e) h f g = g h
 pub both : {T E : Type 0} (r : Result T E) {X Y Z W : Type 0} → MatchResult r (λ _. X) (λ _. Y) → (X → Z) → (Y → W) → MatchResult r (λ _. Z) (λ _. W)
 both (Ok x) h f g = f h
 both (Err e) h f g = g h
+
+-- In one of the two.
+pub in_err : {T E : Type 0} (r : Result T E) (X : Type 0) {Y : Type 0} → is_err r ≡ true → MatchResult r (λ _. X) (λ _. Y) → Y
+in_err (Ok x) X e h = absurd (true≢false (sym e))
+in_err (Err x) X e h = h
+
+pub in_ok : {T E : Type 0} (r : Result T E) {X : Type 0} (Y : Type 0) → is_err r ≡ false → MatchResult r (λ _. X) (λ _. Y) → X
+in_ok (Ok x) Y e h = h
+in_ok (Err x) Y e h = absurd (true≢false e)

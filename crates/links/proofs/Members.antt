@@ -1,5 +1,5 @@
 -- What a set of cells holds, by its marks.
-use Rattle.std.proofs.Common.{◌≡◌, true, false, List, [], ◌∷◌, ◌++◌, sym, ◌∙◌, inl}
+use Rattle.std.proofs.Common.{◌≡◌, true, false, List, [], ◌∷◌, ◌++◌, sym, ◌∙◌}
 use Rattle.link_growth.specs.declared.Cell.{Cell}
 use Rattle.link_growth.specs.Entries.{Mem, Once}
 use Rattle.link_growth.specs.Picking.{Inserted}
@@ -17,9 +17,6 @@ absent s c e = listed_not c (cells_of s) (sym (s.marked c) ∙ e)
 
 pub each_once : (s : Cells) → Once (cells_of s)
 each_once s = distinct_once (cells_of s) s.once
-
-pub inserted_there : {c : Cell} {xs : List Cell} → Mem c xs → Inserted c xs xs
-inserted_there m = record { kept = λ d h. h; there = m; sound = λ d h. inl h }
 
 pub inserted_new : (c : Cell) (xs : List Cell) → Inserted c xs (xs ++ c ∷ [])
 inserted_new c xs = record { kept = λ d h. mem_left (c ∷ []) h; there = mem_last xs c; sound = λ d h. mem_split xs c h }

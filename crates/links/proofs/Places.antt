@@ -1,6 +1,7 @@
 -- The links of one place.
-use Rattle.std.proofs.Common.{◌≡◌, ℕ, ◌+◌, ◌-◌, ◌<◌, ◌≤◌, ◌≢◌, ◌↔◌, ◌&&◌, Bool, true, false, nat_eq, Decides, List, [], get_or, take, drop, is_some, None, sym, refl, ap, ◌∙◌, subst, inl, inr, ⊎_elim, arith, rules, length-drop}
+use Rattle.std.proofs.Common.{◌≡◌, ℕ, ◌+◌, ◌-◌, ◌<◌, ◌≤◌, ◌≢◌, ◌↔◌, ◌&&◌, Bool, true, false, nat_eq, Decides, List, [], get_or, take, drop, is_some, None, Ok, Err, Result, MatchResult, sym, refl, ap, ◌∙◌, subst, inl, inr, ⊎_elim, arith, rules, length-drop}
 use Rattle.std.specs.List.{list_any}
+use Rattle.std.specs.Result.{OkIff}
 use Rattle.std.proofs.lemmas.List.{get_or-drop}
 use Rattle.std.proofs.lemmas.Bool.{cases_lt, both_ways, eq-eqb}
 use Rattle.parsing.specs.Items.{Source}
@@ -47,6 +48,12 @@ of_place t p m n a b x = (into, out)
 -- There is no place from 256 on.
 pub outside : (t : Table) (p : ℕ) → (p < 256 → ⊥) → OfPlace (content t) p []
 outside t p never x = ((λ h. elim h [ ]), λ h. absurd (never (let z = (small_of t x h.0).1 in let q = h.1 in omega arith)))
+
+-- The links of a place that may be a byte.
+pub at_any_place : {E W : Type 0} {Q : ℕ → Type 0} (t : Table) (p : ℕ) (r : Result ℕ E) (ys : List Link) → OkIff r (p < 256) p
+    → MatchResult r Q (λ _. W) → ((x : ℕ) → Q x → OfPlace (content t) x ys) → (W → ys ≡ []) → OfPlace (content t) p ys
+at_any_place t p (Ok x) ys a b f g = subst (λ v. OfPlace (content t) v ys) a.1 (f x b)
+at_any_place t p (Err e) ys a b f g = subst (λ v. OfPlace (content t) p v) (sym (g b)) (outside t p a)
 
 -- The links of one place, as links of the words.
 pub place_linked : {l : Links} {p : ℕ} {ys : List Link} → OfPlace (links_of l) p ys → (src : Source) (ws : List ℕ) → Holds src ws l → (s b i : ℕ)

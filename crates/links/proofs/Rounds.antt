@@ -1,11 +1,11 @@
 -- Reductions one after another, until none makes anything new.
-use Rattle.std.proofs.Common.{◌≡◌, ℕ, ◌+◌, ◌<◌, ◌≤◌, ◌⊎◌, List, [], ◌∷◌, ◌++◌, length, get_or, take, Some, None, Option, sym, refl, ap, ◌∙◌, subst, inl, inr, ⊎_elim, arith}
+use Rattle.std.proofs.Common.{◌≡◌, ℕ, suc, ◌+◌, ◌<◌, ◌≤◌, ◌⊎◌, List, [], ◌∷◌, ◌++◌, length, get_or, take, Some, None, Option, sym, refl, ap, ◌∙◌, subst, inl, inr, ⊎_elim, arith}
 use Rattle.std.proofs.lemmas.Bool.{cases_lt}
 use Rattle.parsing.specs.Grammar.{rule_count}
 use Rattle.parsing.specs.Items.{Source}
 use Rattle.link_growth.specs.declared.Link.{Link}
 use Rattle.link_growth.specs.declared.Cell.{Cell}
-use Rattle.link_growth.specs.Entries.{lnk, at, Mem, Has, Once, cell, lower, stays}
+use Rattle.link_growth.specs.Entries.{lnk, at, Mem, Has, Once, cell, upper, lower, Leads, stays, goes, Spread}
 use Rattle.link_growth.specs.Picking.{Picked}
 use Rattle.link_growth.specs.Growth.{Makes, Grown, same, Overfull, Fired, Shut, Before, Fresh, Ends}
 use Rattle.link_growth.proofs.Members.{mem_left, mem_last, mem_split, take_index, mem_front}
@@ -36,11 +36,12 @@ pub record Firing (src : Source) (x : ℕ) (t u : Table) (limit : ℕ) (start re
   pub along : Along src None t u limit
   pub sub : (c : Cell) → Mem c rest → Mem c start
   pub fired : (b i s : ℕ) → Mem (cell b i) start → src.next b x ≡ Some s → Mem (cell b i) rest ⊎ Has (content u) s t.place b i
+  pub linked : Marked src x t.place (content t) start marked
   pub lacking : (b i s : ℕ) → Mem (cell b i) rest → src.next b x ≡ Some s → Has (content u) s t.place b i → Mem (cell b i) marked
 
 pub firing_none : (src : Source) (x : ℕ) (t : Table) (limit : ℕ) (start marked : List Cell) → Marked src x t.place (content t) start marked
     → Firing src x t t limit start start marked
-firing_none src x t limit start marked k = record { along = along_same src None t limit; sub = λ c m. m; fired = λ b i s m n. inl m; lacking = k.whole }
+firing_none src x t limit start marked k = record { along = along_same src None t limit; sub = λ c m. m; fired = λ b i s m n. inl m; linked = k; lacking = k.whole }
 
 -- The link that is placed from b at i is the only one that is new.
 placed_back : {src : Source} {j x b i s p c k : ℕ} {xs ys : List Link} → Placed src j x b i xs ys → Has ys s p c k → Has xs s p c k ⊎ ((c ≡ b) × (k ≡ i))
@@ -64,17 +65,18 @@ module _ {src : Source} {x : ℕ} {t u : Table} {limit : ℕ} {start rest marked
   firing_split {d} m = mem_split less c (subst (λ z. Mem d z) split m)
 
   -- A cell that has its link.
-  pub firing_known : Marked src x t.place (content t) start marked → Mem c marked → Firing src x t u limit start less marked
-  firing_known k here = record {
+  pub firing_known : Mem c marked → Firing src x t u limit start less marked
+  firing_known here = record {
     along = f.along;
     sub = λ d m. f.sub d (firing_less d m);
     fired = λ b i s m n. ⊎_elim (λ r. ⊎_elim inl (λ (is : cell b i ≡ c). inr (known b i s is n)) (firing_split r)) inr (f.fired b i s m n);
+    linked = f.linked;
     lacking = λ b i s m n h. f.lacking b i s (firing_less (cell b i) m) n h;
   }
     where
       known : (b i s : ℕ) → cell b i ≡ c → src.next b x ≡ Some s → Has (content u) s t.place b i
       known b i s is n =
-          let (q, next, has) = k.sound (cell b i) (subst (λ v. Mem v marked) (sym is) here) in
+          let (q, next, has) = f.linked.sound (cell b i) (subst (λ v. Mem v marked) (sym is) here) in
           let es : q ≡ s = cc in
           grown_has f.along.grown s t.place b i (subst (λ v. Has (content t) v t.place b i) es has)
 
@@ -108,6 +110,7 @@ module _ {src : Source} {x : ℕ} {t u : Table} {limit : ℕ} {start rest marked
               (firing_split r))
               (λ h. inr (grown_has step.grown s t.place b i h))
               (f.fired b i s m n);
+          linked = f.linked;
           lacking = λ b i s m n h. ⊎_elim
               (λ o. f.lacking b i s (firing_less (cell b i) m) n o)
               (λ (y : (b ≡ c.state) × (i ≡ c.place)).
@@ -122,6 +125,23 @@ module _ {src : Source} {x : ℕ} {t u : Table} {limit : ℕ} {start rest marked
 pub firing_all : {src : Source} {x : ℕ} {t u : Table} {limit : ℕ} {start rest marked : List Cell} → rest ≡ [] → Firing src x t u limit start rest marked
     → Ends src x 0 start (content t) (λ s b i. Has (content u) s t.place b i)
 firing_all e f c b i s m stays n = ⊎_elim (λ r. elim (subst (λ v. Mem (cell b i) v) e r) [ ]) (λ h. h) (f.fired b i s m n)
+
+-- From the cells `start` some of `steps` links have been gone down, to the cells `now`; so many are left.
+pub record Descending (xs : List Link) (start : List Cell) (steps : ℕ) (now : List Cell) (left : ℕ) : Type 0 where
+  pub whole : (c d : Cell) → Mem c start → Leads xs steps c d → (e : Cell) × Mem e now × Leads xs left e d
+  pub sound : (e d : Cell) → Mem e now → Leads xs left e d → (c : Cell) × Mem c start × Leads xs steps c d
+
+pub descending_more : {xs : List Link} {start now more : List Cell} {steps left m : ℕ} → left ≡ suc m → Spread xs now more → Descending xs start steps now left
+    → Descending xs start steps more m
+descending_more {xs} {start} {now} {more} {steps} {m = m} is s p = record {
+  whole = λ c d h l. let (e, here, rest) = p.whole c d h l in down here (subst (λ v. Leads xs v e d) is rest);
+  sound = λ e d h l.
+      let (k, mem, up, low) = s.sound e h in
+      p.sound (upper k) d up (subst (λ v. Leads xs v (upper k) d) (sym is) (goes k mem (subst (λ v. Leads xs m v d) (sym low) l)));
+}
+  where
+    down : {e d : Cell} → Mem e now → Leads xs (suc m) e d → (f : Cell) × Mem f more × Leads xs m f d
+    down up (goes k mem rest) = (lower k, s.whole k mem up, rest)
 
 -- The cells that have their link.
 pub marked_all : (src : Source) (x : ℕ) (t : Table) (cs : List Cell) {ys : List Link} {ds : List Cell} → OfPlace (content t) t.place ys

@@ -1,80 +1,141 @@
 -- Sets of cells as they are filled and emptied.
-use Rattle.std.proofs.Common.{◌≡◌, ℕ, ◌<◌, ◌≤◌, ◌⊎◌, true, List, [], ◌∷◌, map, length, get_or, drop, sym, ap, ◌∙◌, subst, inl, inr, ⊎_elim, arith}
+use Rattle.std.proofs.Common.{◌≡◌, ℕ, ◌<◌, ◌≤◌, ◌⊎◌, true, List, [], ◌∷◌, map, length, get_or, drop, sym, ap, ◌∙◌, subst, refl, inl, inr, ⊎_elim, arith, Some, None, Option, ◌+◌, ◌↔◌}
 use Rattle.std.proofs.lemmas.List.{length-map}
+use Rattle.std.proofs.lemmas.Bool.{cases_lt}
 use Rattle.parsing.specs.Items.{Source}
 use Rattle.link_growth.specs.declared.Link.{Link}
 use Rattle.link_growth.specs.declared.Cell.{Cell}
-use Rattle.link_growth.specs.Entries.{at, lnk, Mem, head, tail, Has, cell, upper, lower, Spread}
+use Rattle.link_growth.specs.Entries.{at, lnk, Mem, head, tail, Once, Has, cell, upper, lower, Spread}
 use Rattle.link_growth.specs.Picking.{Inserted, Picked, Tops}
 use Rattle.link_growth.proofs.Members.{mem_at, mem_index, mem_drop}
 use Rattle.link_growth.proofs.Picks.{room, mem_map}
 use Rattle.links.specs.declared.table.Table.{Table}
 use Rattle.links.specs.declared.cells.Cells.{Cells}
 use Rattle.links.specs.Listing.{place_at}
-use Rattle.links.specs.Sets.{cells_of}
+use Rattle.links.specs.Sets.{cells_of, Roomy, Collected}
 use Rattle.links.specs.Tables.{content, Drawn, Scanned, Bottom}
 use Rattle.links.specs.Holding.{OfPlace}
 use Rattle.links.proofs.Members.{each_once}
 use Rattle.links.proofs.Contents.{long, laid_from}
 
--- The first n of some links have been looked at, and the cells of those with P are picked.
-pub record Passed (P : Link → Type 0) (f : Link → Cell) (xs : List Link) (n : ℕ) (old new : List Cell) : Type 0 where
+none_some : {c : Cell} → None ≡ Some c → ⊥
+none_some e = let z : ◌≡◌ {A = ℕ} 0 1 = cc in absurd (omega arith)
+
+some_same : {c d : Cell} → Some c ≡ Some d → c ≡ d
+some_same e = cc
+
+-- What is asked of each link: R gives the cell f l of a link l with P, and of no other.
+abbrev pub Says : (Link → Option Cell → Type 0) → (Link → Type 0) → (Link → Cell) → Type 0
+Says R P f = (l : Link) (r : Option Cell) → R l r → (P l → r ≡ Some (f l)) × ((c : Cell) → r ≡ Some c → P l × (f l ≡ c))
+
+pub collected_picked : {R : Link → Option Cell → Type 0} (P : Link → Type 0) (f : Link → Cell) → Says R P f → {xs : List Link} {old new : List Cell}
+    → Collected R xs old new → Picked P f xs old new
+collected_picked P f says q = record {
+  kept = q.kept;
+  whole = λ l m h. let (r, k, there) = q.whole l m in there (f l) ((says l r k).0 h);
+  sound = λ c m. ⊎_elim inl (λ x. let (p, e) = (says x.0 (Some c) x.2).1 c refl in inr (x.0, x.1, p, e)) (q.sound c m);
+}
+
+-- The first n of some links have been asked.
+pub record Collecting (R : Link → Option Cell → Type 0) (xs : List Link) (n : ℕ) (old new : List Cell) : Type 0 where
   pub kept : (c : Cell) → Mem c old → Mem c new
-  pub whole : (k : ℕ) → k < n → P (at xs k) → Mem (f (at xs k)) new
-  pub sound : (c : Cell) → Mem c new → Mem c old ⊎ ((k : ℕ) × (k < n) × P (at xs k) × (f (at xs k) ≡ c))
+  pub whole : (k : ℕ) → k < n → (r : Option Cell) × R (at xs k) r × ((c : Cell) → r ≡ Some c → Mem c new)
+  pub sound : (c : Cell) → Mem c new → Mem c old ⊎ ((k : ℕ) × (k < n) × R (at xs k) (Some c))
 
-module _ (P : Link → Type 0) (f : Link → Cell) (xs : List Link) (n : ℕ) {old new : List Cell} (inside : n ≤ length xs) (p : Passed P f xs n old new) where
-  pub passed_sound : (c : Cell) → Mem c new → Mem c old ⊎ ((l : Link) × Mem l xs × P l × (f l ≡ c))
-  passed_sound c m = ⊎_elim inl (λ x. inr (at xs x.0, mem_at xs x.0 (lnk 0 0 0 0) (let q = x.1 in omega arith), x.2, x.3)) (p.sound c m)
-
-  pub passed_all : length xs ≤ n → Picked P f xs old new
-  passed_all end = record {
+module _ {R : Link → Option Cell → Type 0} {xs : List Link} {n : ℕ} {old new : List Cell} (p : Collecting R xs n old new) where
+  pub collecting_passed : R (at xs n) None → Collecting R xs (n + 1) old new
+  collecting_passed here = record {
     kept = p.kept;
-    whole = λ l m h.
-        let (k, lt, e) = mem_index (lnk 0 0 0 0) m in
-        subst (λ v. Mem (f v) new) e (p.whole k (omega arith) (subst P (sym e) h));
-    sound = passed_sound;
+    whole = λ k lt. ⊎_elim (λ (y : k < n). p.whole k y)
+        (λ (y : n ≤ k). let is : n ≡ k = omega arith in (None, subst (λ v. R (at xs v) None) is here, λ c (e : None ≡ Some c). absurd (none_some e))) (cases_lt k n);
+    sound = λ c m. ⊎_elim inl (λ x. inr (x.0, (let lt = x.1 in omega arith), x.2)) (p.sound c m);
   }
 
--- A set whose cells are all lower ends of links has room for one more.
-pub drawn_room : (t : Table) (s : Cells) {l : Link} → Mem l (content t) → Drawn (content t) (cells_of s)
-    → (Mem (lower l) (cells_of s) → ⊥) → length (cells_of s) < 4097
-drawn_room t s {l} here drawn none =
-    let n = room (cells_of s) (map lower (content t)) (lower l) (each_once s) drawn (mem_map lower here) none in
-    let e = length-map (content t) lower in
-    let q = long t in
-    omega (arith, t.few)
+  pub collecting_taken : {more : List Cell} (c : Cell) → R (at xs n) (Some c) → Inserted c new more → Collecting R xs (n + 1) old more
+  collecting_taken {more} c here i = record {
+    kept = λ d m. i.kept d (p.kept d m);
+    whole = λ k lt. ⊎_elim
+        (λ (y : k < n). let (r, q, there) = p.whole k y in (r, q, λ d e. i.kept d (there d e)))
+        (λ (y : n ≤ k). let is : n ≡ k = omega arith in (Some c, subst (λ v. R (at xs v) (Some c)) is here, λ d (e : Some c ≡ Some d). subst (λ v. Mem v more) (some_same e) i.there)) (cases_lt k n);
+    sound = λ d m. ⊎_elim
+        (λ o. ⊎_elim inl (λ x. inr (x.0, (let lt = x.1 in omega arith), x.2)) (p.sound d o))
+        (λ (e : d ≡ c). inr (n, (omega arith), subst (λ v. R (at xs n) (Some v)) (sym e) here))
+        (i.sound d m);
+  }
 
-pub drawn_none : (xs : List Link) → Drawn xs []
-drawn_none xs c m = elim m [ ]
+  -- There is room for one more.
+  pub collecting_room : (s : Cells) → cells_of s ≡ new → Roomy R xs old → (c : Cell) → n < length xs → R (at xs n) (Some c) → (Mem c new → ⊥) → length new < 4097
+  collecting_room s is r c lt here none =
+      let all : (d : Cell) → Mem d new → Mem d r.among =
+      (λ d m. ⊎_elim (r.old d) (λ x. r.new (at xs x.0) d (mem_at xs x.0 (lnk 0 0 0 0) (let q = x.1 in omega arith)) x.2) (p.sound d m)) in
+      let m = room new r.among c (subst Once is (each_once s)) all (r.new (at xs n) c (mem_at xs n (lnk 0 0 0 0) lt) here) none in
+      let f = r.few in
+      omega arith
 
-pub drawn_more : (xs : List Link) (P : Link → Type 0) (ys : List Link) (n : ℕ) {old new : List Cell} → ((l : Link) → Mem l ys → Mem l xs) → n ≤ length ys
-    → Passed P lower ys n old new → Drawn xs old → Drawn xs new
-drawn_more xs P ys n among le p drawn c h =
-    ⊎_elim (drawn c) (λ x. subst (λ v. Mem v (map lower xs)) x.3 (mem_map lower (among x.0 x.1))) (passed_sound P lower ys n le p c h)
+  pub collecting_all : n ≤ length xs → length xs ≤ n → Collected R xs old new
+  collecting_all inside end = record {
+    kept = p.kept;
+    whole = λ l m. let (k, lt, e) = mem_index (lnk 0 0 0 0) m in
+        let (r, q, there) = p.whole k (omega arith) in (r, subst (λ v. R v r) e q, there);
+    sound = λ c m. ⊎_elim inl (λ x. inr (at xs x.0, mem_at xs x.0 (lnk 0 0 0 0) (let q = x.1 in omega arith), x.2)) (p.sound c m);
+  }
 
--- A set whose cells are upper ends of links, or one cell besides.
-pub tops_room : (t : Table) (s : Cells) {l : Link} (f : Cell) (P : Link → Type 0) (ys : List Link) (n : ℕ) {old : List Cell} → Mem l (content t)
-    → ((l : Link) → Mem l ys → Mem l (content t)) → n ≤ length ys → Passed P upper ys n old (cells_of s) → ((c : Cell) → Mem c old → c ≡ f)
-    → (Mem (upper l) (cells_of s) → ⊥) → length (cells_of s) < 4097
-tops_room t s {l} f P ys n here among le p one none =
-    let n = room (cells_of s) (f ∷ map upper (content t)) (upper l) (each_once s)
-    (λ c h. ⊎_elim
-    (λ o. subst (λ v. Mem v (f ∷ map upper (content t))) (sym (one c o)) head)
-    (λ x. tail (subst (λ v. Mem v (map upper (content t))) x.3 (mem_map upper (among x.0 x.1))))
-    (passed_sound P upper ys n le p c h))
-    (tail (mem_map upper here)) none in
-    let e = length-map (content t) upper in
-    let q = long t in
-    omega (arith, t.few)
+-- The first n cells of one set are in another.
+pub record Refilling (start : List Cell) (n : ℕ) (got : List Cell) : Type 0 where
+  pub whole : (k : ℕ) → k < n → Mem (get_or start k (cell 0 0)) got
+  pub sound : (c : Cell) → Mem c got → Mem c start
+
+pub refilling_none : (start : List Cell) {got : List Cell} → got ≡ [] → Refilling start 0 got
+refilling_none start e = record { whole = λ k lt. absurd (omega arith); sound = λ c m. elim (subst (λ v. Mem c v) e m) [ ] }
+
+module _ {start got : List Cell} {n : ℕ} (p : Refilling start n got) (lt : n < length start) where
+  pub refilling_room : (s : Cells) → cells_of s ≡ got → length start ≤ 4097 → (Mem (get_or start n (cell 0 0)) got → ⊥) → length got < 4097
+  refilling_room s is few none =
+      let m = room got start (get_or start n (cell 0 0)) (subst Once is (each_once s)) p.sound (mem_at start n (cell 0 0) lt) none in
+      omega arith
+
+  pub refilling_more : {more : List Cell} → Inserted (get_or start n (cell 0 0)) got more → Refilling start (n + 1) more
+  refilling_more {more} i = record {
+    whole = λ k h. ⊎_elim (λ (y : k < n). i.kept (get_or start k (cell 0 0)) (p.whole k y))
+        (λ (y : n ≤ k). let is : n ≡ k = omega arith in subst (λ v. Mem (get_or start v (cell 0 0)) more) is i.there) (cases_lt k n);
+    sound = λ d m. ⊎_elim (p.sound d) (λ (e : d ≡ get_or start n (cell 0 0)). subst (λ v. Mem v start) (sym e) (mem_at start n (cell 0 0) lt)) (i.sound d m);
+  }
+
+pub refilling_all : {start got : List Cell} {n : ℕ} → length start ≤ n → Refilling start n got → (c : Cell) → Mem c got ↔ Mem c start
+refilling_all {got = got} end p c = (p.sound c, λ m. let (k, lt, e) = mem_index (cell 0 0) m in subst (λ v. Mem v got) e (p.whole k (omega arith)))
+
+-- The lower ends of the links of a table.
+pub lower_room : (t : Table) {R : Link → Option Cell → Type 0} (P : Link → Type 0) → Says R P lower → {xs : List Link} {cs : List Cell}
+    → ((l : Link) → Mem l xs → Mem l (content t)) → Drawn (content t) cs → Roomy R xs cs
+lower_room t P says among drawn = record {
+  among = map lower (content t);
+  few = (let e = length-map (content t) lower in let q = long t in omega (arith, t.few));
+  old = drawn;
+  new = λ l c m k. subst (λ v. Mem v (map lower (content t))) ((says l (Some c) k).1 c refl).1 (mem_map lower (among l m));
+}
+
+-- Their upper ends, and one cell besides.
+pub upper_room : (t : Table) (f : Cell) {R : Link → Option Cell → Type 0} (P : Link → Type 0) → Says R P upper → {xs : List Link} {cs : List Cell}
+    → ((l : Link) → Mem l xs → Mem l (content t)) → ((c : Cell) → Mem c cs → c ≡ f) → Roomy R xs cs
+upper_room t f P says among one = record {
+  among = f ∷ map upper (content t);
+  few = (let e = length-map (content t) upper in let q = long t in omega (arith, t.few));
+  old = λ c m. subst (λ v. Mem v (f ∷ map upper (content t))) (sym (one c m)) head;
+  new = λ l c m k. tail (subst (λ v. Mem v (map upper (content t))) ((says l (Some c) k).1 c refl).1 (mem_map upper (among l m)));
+}
+
+pub drawn_empty : (t : Table) {cs : List Cell} → cs ≡ [] → Drawn (content t) cs
+drawn_empty t e c m = elim (subst (λ v. Mem c v) e m) [ ]
 
 -- All links of one place are scanned.
-pub scanned : (xs : List Link) (cs : List Cell) (p : ℕ) {ys : List Link} {old new : List Cell} → OfPlace xs p ys → Picked (λ (l : Link). Mem (upper l) cs) lower ys old new
-    → Scanned xs cs p old new
+pub scanned : (xs : List Link) (cs : List Cell) (p : ℕ) {ys : List Link} {old new : List Cell} → OfPlace xs p ys
+    → Picked (λ (l : Link). Mem (cell l.state p) cs) lower ys old new → Scanned xs cs p old new
 scanned xs cs p at_place q = record {
   kept = q.kept;
-  whole = λ l mem place up. q.whole l ((at_place l).1 (mem, place)) up;
-  sound = λ d h. ⊎_elim inl (λ x. inr (x.0, ((at_place x.0).0 x.1).0, x.2, x.3)) (q.sound d h);
+  whole = λ l mem place up. q.whole l ((at_place l).1 (mem, place)) (subst (λ v. Mem (cell l.state v) cs) place up);
+  sound = λ d h. ⊎_elim inl
+      (λ x. let (mem, place) = (at_place x.0).0 x.1 in let l = x.0 in inr (l, mem, subst (λ v. Mem (cell l.state v) cs) (sym place) x.2, x.3))
+      (q.sound d h);
 }
 
 -- The places of the first k cells are scanned.
@@ -92,6 +153,9 @@ spreading_all {cs = cs} end s = record {
       s.whole h (omega arith) l mem (sym (ap (λ (v : Cell). v.place) e)) up;
   sound = s.sound;
 }
+
+pub spread_over : {xs : List Link} {cs ds es : List Cell} → ((c : Cell) → Mem c es ↔ Mem c ds) → Spread xs cs ds → Spread xs cs es
+spread_over same s = record { whole = λ l m up. (same (lower l)).1 (s.whole l m up); sound = λ c m. s.sound c ((same c).0 m) }
 
 -- The cells of a round's states.
 pub tops : (src : Source) (t : Table) (r n : ℕ) {old new : List Cell} → get_or t.starts t.place 0 ≤ n → n ≤ t.count → Bottom src t.place r old

@@ -10,18 +10,21 @@
 --   Scanned xs cs p old new      new is old with what one link of xs leads down to from the cells cs at place p, and perhaps from others of cs
 --   Bottom src j r cs            the cells cs are the first state at place 0, if that is j and the rule r is done in it
 --   Marked src x j xs cs ds      the cells ds are those of cs that have their link by the symbol x at place j in xs
+--   StepsBy src j x c r          r is the link to the place j that the cell c has by the symbol x, or none
 --   FirstStepped src x p ys      ys has the link at p that the word x makes from the first state, if that is live below p
 --   LinksStepped src x p xs ys   ys has the links at p that the word x makes from the states of the links of xs below p
 --   Along src w t u limit        from t to u links that the rules make at the last place were added within the limit, and nothing else changed
+--   Making src w t u limit r P   so it is, and P holds where r is no refusal; else the rules make more links than the limit
 --   Ahead src t n                a round may look from the link n on: it is of the last place, and what the links before it make is there
 --   Begun t u                    u is t with one place more, that has no links yet
 --   Cut k t u                    u is t with the links of the places up to k alone
-use Rattle.std.specs.Prelude.{◌≡◌, ℕ, ◌+◌, ◌-◌, ◌<◌, ◌≤◌, true, ◌⊎◌, List, [], ◌∷◌, ◌++◌, map, length, take, Some, None, Option, slice_index, slice_index_or}
+use Rattle.std.specs.Prelude.{◌≡◌, ℕ, ◌+◌, ◌-◌, ◌<◌, ◌≤◌, true, ◌⊎◌, List, [], ◌∷◌, ◌++◌, map, length, take, Some, None, Option, Result, MatchResult, slice_index, slice_index_or}
 use Rattle.parsing.specs.Items.{Source}
 use Rattle.link_growth.specs.declared.Link.{Link}
 use Rattle.link_growth.specs.declared.Cell.{Cell}
 use Rattle.link_growth.specs.Entries.{lnk, at, Mem, Has, cell, upper, lower}
-use Rattle.link_growth.specs.Growth.{Grown, Fresh, Before}
+use Rattle.link_growth.specs.Growth.{Grown, Overfull, Fresh, Before}
+use Rattle.links.specs.declared.fault.TooManyLinks.{TooManyLinks}
 use Rattle.links.specs.declared.table.Table.{Table}
 
 abbrev pub content : Table → List Link
@@ -72,6 +75,10 @@ pub record Marked (src : Source) (x j : ℕ) (xs : List Link) (cs ds : List Cell
   pub whole : (b i s : ℕ) → Mem (cell b i) cs → src.next b x ≡ Some s → Has xs s j b i → Mem (cell b i) ds
   pub sound : (c : Cell) → Mem c ds → (s : ℕ) × (src.next c.state x ≡ Some s) × Has xs s j c.state c.place
 
+abbrev pub StepsBy : Source → ℕ → ℕ → Cell → Option Link → Type 0
+StepsBy src j x c None = src.next c.state x ≡ None
+StepsBy src j x c (Some l) = (s : ℕ) × (src.next c.state x ≡ Some s) × (l ≡ lnk s j c.state c.place)
+
 abbrev pub FirstStepped : Source → ℕ → ℕ → List Link → Type 0
 FirstStepped src x p ys = (s : ℕ) → p ≡ 1 → src.next src.first x ≡ Some s → Has ys s p src.first 0
 
@@ -81,6 +88,9 @@ LinksStepped src x p xs ys = (s b c k : ℕ) → Has xs b (p - 1) c k → src.ne
 pub record Along (src : Source) (w : Option ℕ) (t u : Table) (limit : ℕ) : Type 0 where
   pub kept : Kept t u limit
   pub grown : Grown src w t.place (content t) (content u)
+
+abbrev pub Making : Source → Option ℕ → Table → Table → ℕ → Result (Unit {0}) TooManyLinks → Type 0 → Type 0
+Making src w t u limit r P = Along src w t u limit × MatchResult r (λ _. P) (λ _. Overfull src w t.place (content t) limit)
 
 pub record Ahead (src : Source) (t : Table) (n : ℕ) : Type 0 where
   pub since : slice_index t.starts t.place ≤ n

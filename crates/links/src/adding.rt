@@ -1,13 +1,13 @@
 //! Adding links to a table at its last place.
-ghost use Rattle.std.specs.Prelude.{◌≡◌, ℕ, ◌+◌, ◌<◌, ◌≤◌, true, false, [], drop, Some, MatchResult, ◌≢◌};
-ghost use Rattle.link_growth.specs.Entries.{at, Mem, Has};
+ghost use Rattle.std.specs.Prelude.{◌≡◌, ℕ, ◌+◌, ◌≤◌, true, false, [], drop, Some, MatchResult};
+ghost use Rattle.link_growth.specs.Entries.{Mem, Has};
 ghost use Rattle.links.specs.Holding.{OfPlace};
 ghost use Rattle.links.specs.Tables.{content, Kept, Added, Refused, Placed, Turned, StartsAt};
 
 use crate::fault::TooManyLinks;
-use crate::over::Over;
+use crate::over::Symbol;
 use crate::table::Table;
-use link_growth::Link;
+use link_growth::{Cell, Link};
 use states::StateSource;
 
 impl Table {
@@ -16,12 +16,7 @@ impl Table {
         ensures content { content result ≡ [] }
         ensures place { result.place ≡ 0 }
     {
-        let blank = Link {
-            state: 0,
-            place: 0,
-            below: 0,
-            below_place: 0,
-        };
+        let blank = Link::default();
         Table {
             links: [blank; 4096],
             count: 0,
@@ -92,33 +87,39 @@ impl Table {
         Ok(())
     }
 
-    /// Adds the link by the symbol x from the state b at the place i, unless there is no such step or it is there. A link that is known to be
-    /// new is not looked for.
+    /// Adds the link by the symbol from a cell, unless there is no such step or it is there.
     pub(crate) fn put<S: StateSource>(
         &mut self,
-        over: &Over<'_, S>,
-        x: u8,
-        b: u8,
-        i: u8,
-        new: bool,
+        symbol: &Symbol<'_, S>,
+        below: Cell,
     ) -> Result<(), TooManyLinks>
-        requires falls { (s : ℕ) → (S.meaning over.now.source.now).next b x ≡ Some s → i ≤ self.old.place }
-        requires fresh { new ≡ true → (s : ℕ) → (S.meaning over.now.source.now).next b x ≡ Some s → Has (content self.old) s self.old.place b i → ⊥ }
-        ensures kept { Kept self.old self.new over.now.limit }
-        ensures cases { MatchResult result (λ _. Placed (S.meaning over.now.source.now) self.old.place x b i (content self.old) (content self.new)) (λ _. Turned (S.meaning over.now.source.now) self.old.place x b i over.now.limit (content self.old) (content self.new)) }
+        requires falls { (s : ℕ) → (S.meaning symbol.now.over.now.source.now).next below.state symbol.now.x ≡ Some s → below.place ≤ self.old.place }
+        ensures kept { Kept self.old self.new symbol.now.over.now.limit }
+        ensures cases { MatchResult result (λ _. Placed (S.meaning symbol.now.over.now.source.now) self.old.place symbol.now.x below.state below.place (content self.old) (content self.new)) (λ _. Turned (S.meaning symbol.now.over.now.source.now) self.old.place symbol.now.x below.state below.place symbol.now.over.now.limit (content self.old) (content self.new)) }
     {
-        let Some(s) = over.source.next(b, x) else {
+        let Some(link) = symbol.link(below, self.place) else {
             return Ok(());
         };
-        let link = Link {
-            state: s,
-            place: self.place,
-            below: b,
-            below_place: i,
-        };
-        if !new && self.has(link) {
+        if self.has(link) {
             return Ok(());
         }
-        self.push(link, over.limit)
+        self.push(link, symbol.over.limit)
+    }
+
+    /// Adds the link by the symbol from a cell, unless there is no such step, where the link is not there.
+    pub(crate) fn put_new<S: StateSource>(
+        &mut self,
+        symbol: &Symbol<'_, S>,
+        below: Cell,
+    ) -> Result<(), TooManyLinks>
+        requires falls { (s : ℕ) → (S.meaning symbol.now.over.now.source.now).next below.state symbol.now.x ≡ Some s → below.place ≤ self.old.place }
+        requires fresh { (s : ℕ) → (S.meaning symbol.now.over.now.source.now).next below.state symbol.now.x ≡ Some s → Has (content self.old) s self.old.place below.state below.place → ⊥ }
+        ensures kept { Kept self.old self.new symbol.now.over.now.limit }
+        ensures cases { MatchResult result (λ _. Placed (S.meaning symbol.now.over.now.source.now) self.old.place symbol.now.x below.state below.place (content self.old) (content self.new)) (λ _. Turned (S.meaning symbol.now.over.now.source.now) self.old.place symbol.now.x below.state below.place symbol.now.over.now.limit (content self.old) (content self.new)) }
+    {
+        let Some(link) = symbol.link(below, self.place) else {
+            return Ok(());
+        };
+        self.push(link, symbol.over.limit)
     }
 }

@@ -1,5 +1,5 @@
 //! What a table of links is asked.
-ghost use Rattle.std.specs.Prelude.{◌≡◌, ℕ, true, ◌↔◌, List, length};
+ghost use Rattle.std.specs.Prelude.{◌≡◌, ℕ, ◌↔◌, List, length};
 ghost use Rattle.parsing.specs.Items.{Source};
 ghost use Rattle.parsing.specs.Links.{Linked};
 ghost use Rattle.link_growth.specs.Entries.{lnk, Mem};
@@ -26,6 +26,13 @@ impl Links {
         usize::from(self.table.place)
     }
 
+    /// All links, by their places.
+    pub fn all(&self) -> &[Link]
+        ensures { result.now ≡ links_of self.now }
+    {
+        self.table.since(0)
+    }
+
     /// Whether the link is there.
     pub fn has(&self, link: Link) -> bool
         ensures value { Tells result (Mem link (links_of self.now)) }
@@ -39,9 +46,6 @@ impl Links {
         ensures value { OfPlace (links_of self.now) place result.now }
         ensures linked { (src : Source) (ws : List ℕ) → Holds src ws self.now → (s b i : ℕ) → Mem (lnk s place b i) result.now ↔ Linked src ws s place b i }
     {
-        match u8::try_from(place) {
-            Ok(place) => self.table.of_place(place),
-            Err(_) => &[],
-        }
+        u8::try_from(place).map_or(&[], |place| self.table.of_place(place))
     }
 }

@@ -1,5 +1,5 @@
 //! A table of links as it begins, and as it is cut back.
-ghost use Rattle.std.specs.Prelude.{◌≡◌, ℕ, List, [], take};
+ghost use Rattle.std.specs.Prelude.{ℕ, List, take};
 ghost use Rattle.parsing.specs.Items.{Source};
 ghost use Rattle.links.specs.Holding.{Blank, Holds, Ready, Opened};
 
@@ -27,14 +27,11 @@ impl Links {
         requires { Blank self.old }
         ensures { Opened (S.meaning over.now.source.now) over.now.limit self.old result self.new }
     {
-        // By match: the table is emptied before the refusal is handed on.
-        match self.close(over) {
-            Ok(()) => Ok(()),
-            Err(full) => {
-                self.table.clear();
-                Err(full)
-            }
+        let closed = self.close(over);
+        if closed.is_err() {
+            self.table.clear();
         }
+        closed
     }
 
     /// The links of no words. A table that is blank is closed at place 0; one that holds the links of some words is cut back to it.
@@ -56,7 +53,7 @@ impl Links {
     pub fn back(&mut self, k: usize)
         ensures { (src : Source) (ws : List ℕ) → Holds src ws self.old → Holds src (take k ws) self.new }
     {
-        if k < self.table.place as usize {
+        if k < usize::from(self.table.place) {
             self.table.cut(k as u8);
         }
     }

@@ -1,5 +1,5 @@
 //! The cells from which the reductions of a rule begin.
-ghost use Rattle.std.specs.Prelude.{◌≡◌, ℕ, ◌≤◌, true, [], drop, slice_index};
+ghost use Rattle.std.specs.Prelude.{◌≡◌, ◌≤◌, true, [], drop, slice_index};
 ghost use Rattle.link_growth.specs.Entries.{lower};
 ghost use Rattle.link_growth.specs.Picking.{Picked, Tops};
 ghost use Rattle.links.specs.Sets.{cells_of};
@@ -11,56 +11,56 @@ use crate::table::Table;
 use link_growth::Cell;
 use states::StateSource;
 
-/// Makes `here` the cells below the links from `from` on in whose states the rule is done.
-pub(crate) fn seed_below<S: StateSource>(
-    source: &S,
-    table: &Table,
-    here: &mut Cells,
-    rule: u8,
-    from: usize,
-)
-    ensures { Picked (λ l. (S.meaning source.now).done l.state rule ≡ true) lower (drop from (content table.now)) [] (cells_of here.new) }
-{
-    here.clear();
-    for link in table.since(from) {
-        if source.done(link.state, rule) {
-            here.insert(lower_of(link));
-        }
-    }
+/// A rule, and the links from `from` on of a table.
+#[derive(Drop)]
+pub(crate) struct Seeds<'a, S: StateSource> {
+    pub(crate) source: &'a S,
+    pub(crate) table: &'a Table,
+    pub(crate) rule: u8,
+    pub(crate) from: usize,
 }
 
-/// Makes `here` the cell of the first state, where it is live at the last place and the rule is done in it; else no cell.
-fn seed_first<S: StateSource>(source: &S, table: &Table, here: &mut Cells, rule: u8)
-    ensures { Bottom (S.meaning source.now) table.now.place rule (cells_of here.new) }
-{
-    here.clear();
-    if table.place == 0 {
-        let first = source.first();
-        if source.done(first, rule) {
-            here.insert(Cell {
-                state: first,
-                place: 0,
-            });
+impl<S: StateSource> Seeds<'_, S> {
+    /// Makes `here` the cells below the links in whose states the rule is done.
+    pub(crate) fn below(&self, here: &mut Cells)
+        ensures { Picked (λ l. (S.meaning self.now.source.now).done l.state self.now.rule ≡ true) lower (drop self.now.from (content self.now.table.now)) [] (cells_of here.new) }
+    {
+        here.clear();
+        here.collect(self.table.since(self.from), |link| {
+            self.source
+                .done(link.state, self.rule)
+                .then_some(lower_of(link))
+        });
+    }
+
+    /// Makes `here` the cell of the first state, where it is live at the last place and the rule is done in it; else no cell.
+    fn first(&self, here: &mut Cells)
+        ensures { Bottom (S.meaning self.now.source.now) self.now.table.now.place self.now.rule (cells_of here.new) }
+    {
+        here.clear();
+        if self.table.place == 0 {
+            let first = self.source.first();
+            if self.source.done(first, self.rule) {
+                here.insert(Cell {
+                    state: first,
+                    place: 0,
+                });
+            }
         }
     }
-}
 
-/// Makes `here` the cells of the states in which the rule is done: those of the links from `from` on, and the first where it is live at the last place.
-pub(crate) fn seed_tops<S: StateSource>(
-    source: &S,
-    table: &Table,
-    here: &mut Cells,
-    rule: u8,
-    from: usize,
-)
-    requires since { slice_index table.now.starts table.now.place ≤ from }
-    requires until { from ≤ table.now.count }
-    ensures { Tops (S.meaning source.now) table.now.place rule from (content table.now) (cells_of here.new) }
-{
-    seed_first(source, table, here, rule);
-    for link in table.since(from) {
-        if source.done(link.state, rule) {
-            here.insert(upper_of(link));
-        }
+    // Not one call with `below`: the other end of a link is taken, and the set begins with the first state.
+    /// Makes `here` the cells of the states in which the rule is done: those of the links, and the first where it is live at the last place.
+    pub(crate) fn tops(&self, here: &mut Cells)
+        requires since { slice_index self.now.table.now.starts self.now.table.now.place ≤ self.now.from }
+        requires until { self.now.from ≤ self.now.table.now.count }
+        ensures { Tops (S.meaning self.now.source.now) self.now.table.now.place self.now.rule self.now.from (content self.now.table.now) (cells_of here.new) }
+    {
+        self.first(here);
+        here.collect(self.table.since(self.from), |link| {
+            self.source
+                .done(link.state, self.rule)
+                .then_some(upper_of(link))
+        });
     }
 }

@@ -1,9 +1,11 @@
 //! Adding to a set of cells, and taking from it.
-ghost use Rattle.std.specs.Prelude.{◌≡◌, ◌<◌, true, false, [], length};
+ghost use Rattle.std.specs.Prelude.{◌≡◌, ◌<◌, true, false, ◌↔◌, [], length};
+ghost use Rattle.std.specs.Fn.{FnReturnsAt};
+ghost use Rattle.link_growth.specs.declared.Cell.{Cell as SomeCell};
 ghost use Rattle.link_growth.specs.Entries.{Mem, upper, lower};
 ghost use Rattle.link_growth.specs.Picking.{Inserted};
 ghost use Rattle.links.specs.Listing.{place_at};
-ghost use Rattle.links.specs.Sets.{cells_of, Popped, Revisits};
+ghost use Rattle.links.specs.Sets.{cells_of, Popped, Revisits, Roomy, Collected};
 
 use crate::cells::Cells;
 use arrayvec::ArrayVec;
@@ -96,6 +98,29 @@ impl Cells {
     pub(crate) fn clear(&mut self)
         ensures { cells_of self.new ≡ [] }
     {
-        while let Some(_) = self.pop() {}
+        while self.pop().is_some() {}
+    }
+
+    /// Takes all cells out, and those of another set in.
+    pub(crate) fn refill(&mut self, from: &Cells)
+        ensures { (c : SomeCell) → Mem c (cells_of self.new) ↔ Mem c (cells_of from.now) }
+    {
+        self.clear();
+        for c in from.list.as_slice() {
+            self.insert(*c);
+        }
+    }
+
+    /// Adds the cells that are picked from the links.
+    pub(crate) fn collect<F: Fn(&Link) -> Option<Cell>>(&mut self, links: &[Link], pick: F)
+        requires calls { F.IsAlwaysCallable pick }
+        requires room { Roomy (FnReturnsAt F.Fn pick) links.now (cells_of self.old) }
+        ensures { Collected (FnReturnsAt F.Fn pick) links.now (cells_of self.old) (cells_of self.new) }
+    {
+        for link in links {
+            if let Some(c) = pick(link) {
+                self.insert(c);
+            }
+        }
     }
 }

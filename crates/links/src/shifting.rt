@@ -1,14 +1,15 @@
 //! Going from place to place, and the word rule.
-ghost use Rattle.std.specs.Prelude.{◌≡◌, ℕ, ◌+◌, ◌-◌, ◌<◌, ◌≤◌, true, false, ◌≢◌, [], Some, None, MatchResult};
+ghost use Rattle.std.specs.Prelude.{◌≡◌, ℕ, ◌-◌, ◌<◌, ◌≤◌, true, false, ◌≢◌, [], Some, None};
 ghost use Rattle.parsing.specs.Links.{LiveOf};
 ghost use Rattle.link_growth.specs.Entries.{Has};
-ghost use Rattle.link_growth.specs.Growth.{Grown, Overfull, Stepped, Shut};
-ghost use Rattle.links.specs.Tables.{content, Along, FirstStepped, LinksStepped, Begun, Cut};
+ghost use Rattle.link_growth.specs.Growth.{Stepped, Shut};
+ghost use Rattle.links.specs.Tables.{content, Making, FirstStepped, LinksStepped, Begun, Cut};
 
 use crate::fault::TooManyLinks;
 use crate::links::Links;
 use crate::over::Word;
 use crate::table::Table;
+use link_growth::Cell;
 use states::StateSource;
 
 impl Table {
@@ -36,16 +37,17 @@ impl Table {
         requires { k ≤ self.old.place }
         ensures { Cut k self.old self.new }
     {
-        let count = self.end_of(k);
-        self.count = count;
+        self.count = self.end_of(k);
         self.place = k;
     }
 
-    /// Whether some state that is live at the last place has a step by the symbol x.
-    pub(crate) fn steps<S: StateSource>(&self, source: &S, x: u8) -> bool
-        ensures some { result ≡ true → (b : ℕ) × LiveOf (S.meaning source.now) (Has (content self.now)) b self.now.place × ((S.meaning source.now).next b x ≢ None) }
-        ensures none { result ≡ false → (b : ℕ) → LiveOf (S.meaning source.now) (Has (content self.now)) b self.now.place → (S.meaning source.now).next b x ≡ None }
+    /// Whether some state that is live at the last place has a step by the word.
+    pub(crate) fn steps<S: StateSource>(&self, word: &Word<'_, S>) -> bool
+        ensures some { result ≡ true → (b : ℕ) × LiveOf (S.meaning word.now.symbol.over.now.source.now) (Has (content self.now)) b self.now.place × ((S.meaning word.now.symbol.over.now.source.now).next b word.now.symbol.x ≢ None) }
+        ensures none { result ≡ false → (b : ℕ) → LiveOf (S.meaning word.now.symbol.over.now.source.now) (Has (content self.now)) b self.now.place → (S.meaning word.now.symbol.over.now.source.now).next b word.now.symbol.x ≡ None }
     {
+        let source = word.symbol.over.source;
+        let x = word.symbol.x;
         if self.place == 0 && source.next(source.first(), x).is_some() {
             return true;
         }
@@ -56,29 +58,33 @@ impl Table {
 
     /// The word rule from the first state, where it is live at the place below the last.
     fn shift_first<S: StateSource>(&mut self, word: &Word<'_, S>) -> Result<(), TooManyLinks>
-        ensures along { Along (S.meaning word.now.over.source.now) (Some word.now.x) self.old self.new word.now.over.limit }
-        ensures cases { MatchResult result (λ _. FirstStepped (S.meaning word.now.over.source.now) word.now.x self.old.place (content self.new)) (λ _. Overfull (S.meaning word.now.over.source.now) (Some word.now.x) self.old.place (content self.old) word.now.over.limit) }
+        ensures { Making (S.meaning word.now.symbol.over.now.source.now) (Some word.now.symbol.x) self.old self.new word.now.symbol.over.now.limit result (FirstStepped (S.meaning word.now.symbol.over.now.source.now) word.now.symbol.x self.old.place (content self.new)) }
     {
         if self.place != 1 {
             return Ok(());
         }
-        let first = word.over.source.first();
-        self.put(&word.over, word.x, first, 0, false)
+        let first = Cell {
+            state: word.symbol.over.source.first(),
+            place: 0,
+        };
+        self.put(&word.symbol, first)
     }
 
     /// The word rule from the states of the links of the place below the last.
     fn shift_links<S: StateSource>(&mut self, word: &Word<'_, S>) -> Result<(), TooManyLinks>
         requires { 0 < self.old.place }
-        ensures along { Along (S.meaning word.now.over.source.now) (Some word.now.x) self.old self.new word.now.over.limit }
-        ensures cases { MatchResult result (λ _. LinksStepped (S.meaning word.now.over.source.now) word.now.x self.old.place (content self.old) (content self.new)) (λ _. Overfull (S.meaning word.now.over.source.now) (Some word.now.x) self.old.place (content self.old) word.now.over.limit) }
+        ensures { Making (S.meaning word.now.symbol.over.now.source.now) (Some word.now.symbol.x) self.old self.new word.now.symbol.over.now.limit result (LinksStepped (S.meaning word.now.symbol.over.now.source.now) word.now.symbol.x self.old.place (content self.old) (content self.new)) }
     {
         let below = self.place - 1;
         let start = self.start_of(below);
         let end = self.start_of(self.place);
         // By index: a link that is added changes the table, from which no slice can be lent meanwhile.
         for k in start..end {
-            let b = self.links[k].state;
-            self.put(&word.over, word.x, b, below, false)?;
+            let cell = Cell {
+                state: self.links[k].state,
+                place: below,
+            };
+            self.put(&word.symbol, cell)?;
         }
         Ok(())
     }
@@ -88,11 +94,10 @@ impl Links {
     /// The word rule, from all states that are live at the place below the last, and then the reductions.
     pub(crate) fn extend<S: StateSource>(&mut self, word: &Word<'_, S>) -> Result<(), TooManyLinks>
         requires { 0 < self.old.table.place }
-        ensures along { Along (S.meaning word.now.over.source.now) (Some word.now.x) self.old.table self.new.table word.now.over.limit }
-        ensures cases { MatchResult result (λ _. Stepped (S.meaning word.now.over.source.now) word.now.x self.old.table.place (self.old.table.place - 1) (content self.old.table) (content self.new.table) × Shut (S.meaning word.now.over.source.now) self.old.table.place (content self.new.table)) (λ _. Overfull (S.meaning word.now.over.source.now) (Some word.now.x) self.old.table.place (content self.old.table) word.now.over.limit) }
+        ensures { Making (S.meaning word.now.symbol.over.now.source.now) (Some word.now.symbol.x) self.old.table self.new.table word.now.symbol.over.now.limit result (Stepped (S.meaning word.now.symbol.over.now.source.now) word.now.symbol.x self.old.table.place (self.old.table.place - 1) (content self.old.table) (content self.new.table) × Shut (S.meaning word.now.symbol.over.now.source.now) self.old.table.place (content self.new.table)) }
     {
         self.table.shift_first(word)?;
         self.table.shift_links(word)?;
-        self.close(&word.over)
+        self.close(word.symbol.over)
     }
 }

@@ -7,10 +7,10 @@ use link_growth::Link;
 /// The first `count` of `links`, up to the last place, `place`. The links of the place i begin at `starts[i]`.
 #[derive(Drop)]
 pub(crate) struct Table {
-    // With a count beside it: the table begins as an array of blank links, in memory that is fixed.
+    // Not an `ArrayVec`: that the table begins as 4,096 blank links with a count beside them is a rule of the project.
     pub(crate) links: [Link; 4096],
     pub(crate) count: usize,
-    // By place: each place has its slot, and none is looked for.
+    // A slot for each place, so that no start is searched for.
     pub(crate) starts: [u16; 256],
     pub(crate) place: u8,
     ghost room: { length links ≡ 4096 },

@@ -4,7 +4,7 @@ ghost use Rattle.links.specs.Holding.{Holds, Took};
 
 use crate::fault::TakeFault;
 use crate::links::Links;
-use crate::over::{Over, Word};
+use crate::over::{Over, Symbol, Word};
 use states::StateSource;
 
 impl Links {
@@ -21,25 +21,21 @@ impl Links {
         if place >= 254 {
             return Err(TakeFault::TooManyWords);
         }
-        let Ok(x) = u8::try_from(terminal) else {
-            return Err(TakeFault::NoTerminal);
-        };
+        let x = u8::try_from(terminal).map_err(|_| TakeFault::NoTerminal)?;
         if x >= source.terminals() {
             return Err(TakeFault::NoTerminal);
         }
-        if !self.table.steps(source, x) {
+        let over = Over::new(source, limit);
+        let symbol = Symbol { over: &over, x };
+        let word = Word { symbol };
+        if !self.table.steps(&word) {
             return Err(TakeFault::NoStep);
         }
-        let over = Over::new(source, limit);
-        let word = Word { over, x };
         self.table.begin();
-        // By match: what was added is cut away before the refusal is handed on.
-        match self.extend(&word) {
-            Ok(()) => Ok(()),
-            Err(_) => {
-                self.table.cut(place);
-                Err(TakeFault::TooManyLinks)
-            }
+        if self.extend(&word).is_err() {
+            self.table.cut(place);
+            return Err(TakeFault::TooManyLinks);
         }
+        Ok(())
     }
 }

@@ -1,6 +1,7 @@
 //! What is refused, in which order, and that nothing has changed then.
-use crate::sheets::{L, P, Q, W, link, links_of, states};
+use crate::sheets::{L, W, link, links_of, states};
 use links::{Links, TakeFault, TooManyLinks};
+use sample_sheets::{P, Q};
 use std::test::Fail;
 
 /// A limit that suffices for all links, and one that is one too low.

@@ -1,5 +1,6 @@
 //! The links of words: how many there are, and that some are there.
-use crate::sheets::{H, P, Q, W, link, links_of, states};
+use crate::sheets::{H, W, link, links_of, states};
+use sample_sheets::{P, Q};
 use std::process::Abort;
 use std::test::Fail;
 

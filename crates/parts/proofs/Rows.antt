@@ -1,10 +1,10 @@
 -- How rows of marks grow, and what they mark.
-use Rattle.std.proofs.Common.{◌≡◌, ℕ, zero, suc, ◌+◌, ◌<◌, ◌≤◌, Bool, true, false, ◌≢◌, ◌⊎◌, List, [], length, get_or, set, replicate, sym, refl, ap, ◌∙◌, subst, subst₂, inl, inr, arith, length-set, get_or-set_other, get_or-set_same}
+use Rattle.std.proofs.Common.{◌≡◌, ℕ, zero, suc, ◌+◌, ◌<◌, ◌≤◌, Bool, true, false, ◌≢◌, ◌⊎◌, List, [], length, get_or, set, replicate, sym, refl, ap, ◌∙◌, subst, subst₂, ap₂, ◌&&◌, inl, inr, arith, length-set, get_or-set_other, get_or-set_same}
 use Rattle.std.proofs.lemmas.List.{get_or-replicate}
-use Rattle.std.proofs.lemmas.Bool.{cases_order, cases_lt, false≢true}
+use Rattle.std.proofs.lemmas.Bool.{cases_order, cases_lt, and_parts, false≢true}
 use Rattle.spans.specs.Spans.{Path, stay, step}
 use Rattle.spans.proofs.Paths.{path_rises, join, one}
-use Rattle.parts.specs.Marks.{Marked, Added, Begins, Ends, Completes, Leads}
+use Rattle.parts.specs.Marks.{Marked, Added, goes, Begins, Ends, Completes, Leads}
 
 pub unmarked : (n k : ℕ) → Marked (replicate n false) k → ⊥
 unmarked zero k h = false≢true h
@@ -35,6 +35,13 @@ one_marked j k row e h = elim (marked_back (replicate 256 false) j k (subst (λ 
 
 pub marked_one : (j : ℕ) (row : List Bool) → row ≡ set (replicate 256 false) j true → j < 256 → Marked row j
 marked_one j row e l = subst (λ t. Marked t j) (sym e) (marked_here (replicate 256 false) j l)
+
+-- What the answer of `goes` tells.
+pub goes_true : (h : ℕ → ℕ → Bool) (next : List Bool) (a b : ℕ) → goes h next a b ≡ true → Marked next b × (h a b ≡ true)
+goes_true h next a b e = and_parts (get_or next b false) (h a b) e
+
+pub goes_false : (h : ℕ → ℕ → Bool) (next : List Bool) (a b : ℕ) → goes h next a b ≡ false → Marked next b → h a b ≡ true → ⊥
+goes_false h next a b e m f = false≢true (sym e ∙ ap₂ ◌&&◌ m f)
 
 pub added_then : (P Q S : ℕ → Type 0) (x y z : List Bool) → ((a : ℕ) → P a → S a) → ((a : ℕ) → Q a → S a) → ((a : ℕ) → S a → P a ⊎ Q a)
     → Added P x y → Added Q y z → Added S x z

@@ -1,19 +1,14 @@
 -- Alternatives that go on from some cuts.
-use Rattle.std.proofs.Common.{◌≡◌, ℕ, suc, ◌+◌, ◌-◌, ◌<◌, ◌≤◌, Bool, true, ◌≢◌, List, [], ◌∷◌, length, get_or, set, sym, refl, ap, ◌∙◌, subst, ap₂, inl, inr, arith, get_or-set_other, get_or-set_same}
+use Rattle.std.proofs.Common.{◌≡◌, ℕ, ◌+◌, ◌-◌, ◌<◌, ◌≤◌, Bool, true, false, ◌≢◌, List, [], length, get_or, set, sym, refl, ap, ◌∙◌, subst, ap₂, inl, inr, arith, get_or-set_other, get_or-set_same}
 use Rattle.std.proofs.lemmas.Bool.{cases_lt}
+use Rattle.std.proofs.lemmas.Grind.{same_number_lists}
 use Rattle.parsing.specs.Grammar.{Grammar, rhs}
 use Rattle.spans.specs.Spans.{Path, part_fits}
 use Rattle.spans.proofs.Paths.{path_of}
 use Rattle.records.specs.declared.alternative.Alternative.{Alternative}
-use Rattle.parts.specs.Marks.{Marked, Completes}
+use Rattle.parts.specs.Marks.{Marked, goes, Completes}
 use Rattle.parts.specs.Parts.{Unused, Extends, Whole}
-use Rattle.parts.proofs.Rows.{path_forward, path_here}
-
-pub same_numbers : (xs ys : List ℕ) → length xs ≡ length ys → ((k : ℕ) → k < length xs → get_or xs k 0 ≡ get_or ys k 0) → xs ≡ ys
-same_numbers [] [] l f = refl
-same_numbers [] (y ∷ ys) l f = absurd (omega arith)
-same_numbers (x ∷ xs) [] l f = absurd (omega arith)
-same_numbers (x ∷ xs) (y ∷ ys) l f = ap₂ ◌∷◌ (f 0 (omega arith)) (same_numbers xs ys (omega arith) (λ k h. f (suc k) (omega arith)))
+use Rattle.parts.proofs.Rows.{goes_true, goes_false, path_forward, path_here}
 
 module _ (g : Grammar) (fits : ℕ → ℕ → ℕ → Bool) (rows : List (List Bool)) (r j : ℕ) where
   -- At the end nothing is left to choose.
@@ -39,7 +34,7 @@ module _ (g : Grammar) (fits : ℕ → ℕ → ℕ → Bool) (rows : List (List 
         | inl a ↦ x.unused k (omega arith) (omega arith) ∙ sym (u k a (omega arith))
         | inr a ↦ x.same k a
       ] in
-      let e = same_numbers z.cuts ks (x.long ∙ sym l) each in
+      let e = same_number_lists z.cuts ks (x.long ∙ sym l) each in
       let d = x.rule in
       λ i. record { rule = d i; cuts = e i }
 
@@ -57,9 +52,10 @@ module _ (g : Grammar) (fits : ℕ → ℕ → ℕ → Bool) (rows : List (List 
     next_cut : (c : ℕ) (z : Alternative) → Extends g fits rows r j (p + 1) (set ks (p + 1) c) z → next z ≡ c
     next_cut c z x = x.same (p + 1) (omega arith) ∙ at_next c
 
-    pub shorter : (c : ℕ) → c ≤ j → Marked (get_or rows (p + 1) []) c → part_fits g fits r p (get_or ks p 0) c ≡ true
+    pub shorter : (c : ℕ) → c ≤ j → goes (fits (get_or (rhs g r) p 0)) (get_or rows (p + 1) []) (get_or ks p 0) c ≡ true
         → (z : Alternative) → Extends g fits rows r j (p + 1) (set ks (p + 1) c) z → Extends g fits rows r j p ks z × (next z ≡ c)
-    shorter c cj mk h z x =
+    shorter c cj t z x =
+        let (mk, h) = goes_true (fits (get_or (rhs g r) p 0)) (get_or rows (p + 1) []) (get_or ks p 0) c t in
         let n = next_cut c z x in
         let s = x.same p (omega arith) ∙ at_other c p (omega arith) in (
           record {
@@ -113,10 +109,11 @@ module _ (g : Grammar) (fits : ℕ → ℕ → ℕ → Bool) (rows : List (List 
     next_fits : (z : Alternative) → Extends g fits rows r j p ks z → part_fits g fits r p (get_or ks p 0) (next z) ≡ true
     next_fits z x = ap (λ t. part_fits g fits r p t (next z)) (sym (x.same p (omega arith))) ∙ x.fit p (omega arith) pm
 
-    pub no_next : (c : ℕ) → (Marked (get_or rows (p + 1) []) c → part_fits g fits r p (get_or ks p 0) c ≡ true → ⊥)
+    pub no_next : (c : ℕ) → goes (fits (get_or (rhs g r) p 0)) (get_or rows (p + 1) []) (get_or ks p 0) c ≡ false
         → (z : Alternative) → Extends g fits rows r j p ks z → next z ≡ c → ⊥
     no_next c f z x e =
-        f (subst (λ t. Marked (get_or rows (p + 1) []) t) e (x.marked (p + 1) (omega arith) (omega arith)))
+        goes_false (fits (get_or (rhs g r) p 0)) (get_or rows (p + 1) []) (get_or ks p 0) c f
+        (subst (λ t. Marked (get_or rows (p + 1) []) t) e (x.marked (p + 1) (omega arith) (omega arith)))
         (subst (λ t. part_fits g fits r p (get_or ks p 0) t ≡ true) e (next_fits z x))
 
 module _ (g : Grammar) (fits : ℕ → ℕ → ℕ → Bool) (forward : (x a b : ℕ) → fits x a b ≡ true → a ≤ b) (r i j : ℕ) where

@@ -12,7 +12,7 @@ use register::{Full, Register};
 use states::StateSource;
 
 /// The cuts of which only the first is used.
-fn first_cut(i: u8) -> [u8; 8]
+fn cuts_from(i: u8) -> [u8; 8]
     ensures { result ≡ slice_set (replicate 8 255) 0 i }
 {
     let mut cuts = [255; 8];
@@ -21,6 +21,7 @@ fn first_cut(i: u8) -> [u8; 8]
 }
 
 impl<S: StateSource, F: Fits> RuleOver<'_, S, F> {
+    // A number beside the cuts: an alternative is laid down with room for eight.
     /// Adds every alternative that begins with the cuts up to part p and goes on along marked places.
     fn visit(
         &self,
@@ -40,9 +41,9 @@ impl<S: StateSource, F: Fits> RuleOver<'_, S, F> {
             })?;
             return Ok(());
         }
-        let x = self.part(p);
+        let part = self.part(p, rows);
         for c in cuts[p]..=self.j {
-            if rows[p + 1][usize::from(c)] && self.spans.fits(x, cuts[p], c) {
+            if part.goes(cuts[p], c) {
                 let mut longer = cuts;
                 longer[p + 1] = c;
                 self.visit(rows, p + 1, longer, alternatives)?;
@@ -58,11 +59,11 @@ impl<S: StateSource, F: Fits> RuleOver<'_, S, F> {
         if self.parts() == 0 && self.i != self.j {
             return Ok(());
         }
-        self.visit(&self.completes(), 0, first_cut(self.i), alternatives)
+        self.visit(&self.completes(), 0, cuts_from(self.i), alternatives)
     }
 }
 
-// Not one loop with `put_parts`: records of another kind are added, and each promise is told by a property of its own.
+// Not one loop with `put_parts`, by a closure: its contract would have to tell what each call leaves in a list.
 /// Adds every alternative of a node.
 pub fn put_alternatives<S: StateSource, F: Fits>(
     source: &S,
@@ -73,14 +74,7 @@ pub fn put_alternatives<S: StateSource, F: Fits>(
     ensures { Filled by_alternative (Of (S.StateSource.meaning source.now).grammar (F.Fits.says spans.now) node (rule_count (S.StateSource.meaning source.now).grammar)) alternatives.old alternatives.new result }
 {
     for rule in 0..source.rules() {
-        if source.left(usize::from(rule)) == node.symbol {
-            let over = RuleOver {
-                source,
-                spans,
-                rule,
-                i: node.from,
-                j: node.to,
-            };
+        if let Some(over) = RuleOver::of(source, spans, node, rule) {
             over.put_alternatives(alternatives)?;
         }
     }

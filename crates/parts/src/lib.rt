@@ -6,6 +6,7 @@ mod fits;
 mod marks;
 mod nodes;
 mod over;
+mod part;
 
 pub use alternatives::put_alternatives;
 pub use fits::Fits;

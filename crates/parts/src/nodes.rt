@@ -8,52 +8,44 @@ ghost use Rattle.parts.specs.Parts.{From, Between, PartOf, PartBelow};
 use crate::fits::Fits;
 use crate::marks::one_mark;
 use crate::over::RuleOver;
+use crate::part::Part;
 use records::Node;
 use register::{Full, Register};
 use states::StateSource;
 
-impl<S: StateSource, F: Fits> RuleOver<'_, S, F> {
-    // Not one loop with `mark_ends`: a mark always finds room, and a node may not.
-    /// Adds the nodes of x from a to each marked place up to j to which it fits.
-    fn put_from(
-        &self,
-        x: u8,
-        a: u8,
-        next: &[bool; 256],
-        nodes: &mut Register<'_, Node>,
-    ) -> Result<(), Full>
-        ensures { Filled by_node (From (F.Fits.says self.now.spans.now x) next.now x self.now.j a) nodes.old nodes.new result }
+impl<F: Fits> Part<'_, '_, F> {
+    // Not one loop with `mark_ends`, nor `put_between` with `ends`: a mark always finds room, and a node may not.
+    /// Adds the nodes of the part from a.
+    fn put_from(&self, a: u8, nodes: &mut Register<'_, Node>) -> Result<(), Full>
+        ensures { Filled by_node (From (F.Fits.says self.now.spans.now self.now.symbol) self.now.next.now self.now.symbol self.now.j a) nodes.old nodes.new result }
     {
         for b in a..=self.j {
-            if next[usize::from(b)] && self.spans.fits(x, a, b) {
+            if self.goes(a, b) {
                 nodes.insert(Node {
                     from: a,
                     to: b,
-                    symbol: x,
+                    symbol: self.symbol,
                 })?;
             }
         }
         Ok(())
     }
 
-    /// Adds the nodes of x from marked places of the one row to marked places of the other.
-    fn put_between(
-        &self,
-        x: u8,
-        before: &[bool; 256],
-        next: &[bool; 256],
-        nodes: &mut Register<'_, Node>,
-    ) -> Result<(), Full>
-        ensures { Filled by_node (Between (F.Fits.says self.now.spans.now x) before.now next.now x self.now.i self.now.j) nodes.old nodes.new result }
+    /// Adds the nodes of the part from marked places.
+    fn put_between(&self, before: &[bool; 256], nodes: &mut Register<'_, Node>) -> Result<(), Full>
+        ensures { Filled by_node (Between (F.Fits.says self.now.spans.now self.now.symbol) before.now self.now.next.now self.now.symbol self.now.i self.now.j) nodes.old nodes.new result }
     {
+        // By place, not by `enumerate`: a place is a byte.
         for a in self.i..=self.j {
             if before[usize::from(a)] {
-                self.put_from(x, a, next, nodes)?;
+                self.put_from(a, nodes)?;
             }
         }
         Ok(())
     }
+}
 
+impl<S: StateSource, F: Fits> RuleOver<'_, S, F> {
     /// Adds the nonterminal parts of all alternatives by the rule from i to j.
     fn put_parts(&self, nodes: &mut Register<'_, Node>) -> Result<(), Full>
         ensures { Filled by_node (PartOf (S.StateSource.meaning self.now.source.now).grammar (F.Fits.says self.now.spans.now) self.now.rule self.now.i self.now.j (length (rhs (S.StateSource.meaning self.now.source.now).grammar self.now.rule))) nodes.old nodes.new result }
@@ -61,11 +53,11 @@ impl<S: StateSource, F: Fits> RuleOver<'_, S, F> {
         let rows = self.completes();
         let mut before = one_mark(self.i);
         for p in 0..self.parts() {
-            let x = self.part(p);
-            if x >= self.source.terminals() {
-                self.put_between(x, &before, &rows[p + 1], nodes)?;
+            let part = self.part(p, &rows);
+            if part.symbol >= self.source.terminals() {
+                part.put_between(&before, nodes)?;
             }
-            before = self.ends(x, &before, &rows[p + 1]);
+            before = part.ends(&before);
         }
         Ok(())
     }
@@ -81,14 +73,7 @@ pub fn put_parts<S: StateSource, F: Fits>(
     ensures { Filled by_node (PartBelow (S.StateSource.meaning source.now).grammar (F.Fits.says spans.now) node (rule_count (S.StateSource.meaning source.now).grammar)) nodes.old nodes.new result }
 {
     for rule in 0..source.rules() {
-        if source.left(usize::from(rule)) == node.symbol {
-            let over = RuleOver {
-                source,
-                spans,
-                rule,
-                i: node.from,
-                j: node.to,
-            };
+        if let Some(over) = RuleOver::of(source, spans, node, rule) {
             over.put_parts(nodes)?;
         }
     }

@@ -15,12 +15,13 @@ use std::cmp::Ordering;
 #[derive(Clone, Copy, PartialEq, Eq, Debug)]
 pub struct Alternative {
     pub rule: u8,
-    // 255 and not none: the bytes of a record are laid down.
+    // Not options: the field is public, and a cut that is not used is laid down as 255.
     pub cuts: [u8; 8],
 }
 
 impl Alternative {
-    /// What a slot without an alternative holds: 255 throughout. It is no `Default`, which would not say 255.
+    // Not `Default`, which is derived as 0 throughout.
+    /// What a slot without an alternative holds: 255 throughout.
     pub fn blank() -> Alternative
         ensures { result ≡ blank_alternative }
     {
@@ -46,7 +47,7 @@ impl Alternative {
     }
 }
 
-// By hand: the order of the fields is not the order of alternatives.
+// By hand: the last cut that is used comes before the rule, which no order of the fields gives.
 impl PartialOrd for Alternative {
     ghost partial_cmp = { as_partial_cmp alternative_cmp };
 

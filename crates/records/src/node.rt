@@ -11,7 +11,8 @@ pub struct Node {
 }
 
 impl Node {
-    /// What a slot without a node holds: 255 throughout. It is no `Default`, which would not say 255.
+    // Not `Default`, which is derived as 0 throughout.
+    /// What a slot without a node holds: 255 throughout.
     pub fn blank() -> Node
         ensures { result ≡ blank_node }
     {

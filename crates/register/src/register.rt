@@ -8,7 +8,7 @@ pub struct Full;
 /// The first `count` of the lent slots hold the records.
 #[derive(Drop)]
 pub struct Register<'a, T> {
-    // With a count beside them: the slots are lent, and those past the records are not the register's.
+    // With a count beside them: the slots are lent, and the records are the first of them.
     pub(crate) slots: &'a mut [T],
     pub(crate) count: usize,
     ghost within: { count ≤ length slots.now },

@@ -24,9 +24,6 @@ module _ (g : Grammar) where
   right_sides = well_formed.right_in
 
   module _ (r : ℕ) (h : r < rule_count (meaning g)) where
-    pub short : length (rhs (meaning g) r) ≤ 7
-    short = well_formed.short r h
-
     pub left_is : left_side (meaning g) r ≡ lhs (meaning g) r
     left_is = sym (cond_below r (rule_count (meaning g)) (lhs (meaning g) r) 255 h)
 

@@ -36,20 +36,6 @@ pub record Gathered (g : Grammar) (v : Items) (S : ℕ → Bool) (n : ℕ) : Typ
   pub sound : (X : ℕ) → S X ≡ true → Moves g v X
   pub made : (q : ℕ) → q < n → (dot X : ℕ) → v q dot ≡ true → Next g q dot X → S X ≡ true
 
-module _ (g : Grammar) (v : Items) (S : ℕ → Bool) where
-  pub gathered_more : (T : ℕ → Bool) (r : ℕ) → Gathered g v S r → Gathers g v r S T (length (rhs g r)) → Gathered g v T (r + 1)
-  gathered_more T r a s = record {
-    sound = λ X k. ⊎_elim (λ p. a.sound X p) (λ p. p) (s.sound X k);
-    made = below_more _ r (λ q l dot X p y. s.kept X (a.made q l dot X p y)) (λ dot X p y. s.made dot y.dot_in X p y);
-  }
-
-  pub gathered_all : (n : ℕ) → n ≡ rule_count g → Gathered g v S n → Nexts g v S
-  gathered_all n e a X = tell (S X) refl
-    where
-      tell : (b : Bool) → S X ≡ b → MatchBool b (Moves g v X) (NoStep g v X)
-      tell true k = a.sound X k
-      tell false k = λ r d p y. both_ways (S X) k (a.made r (omega (arith, y.rule_in)) d X p y)
-
 -- What the symbols that come next tell.
 module _ (g : Grammar) (v : Items) (S : ℕ → Bool) (X : ℕ) (n : Nexts g v S) where
   pub told_next : S X ≡ true → Moves g v X

@@ -31,10 +31,7 @@ none_in r d =
     let z : get_or (replicate 64 0) r 0 ≡ 0 = elim (cases_lt r 64) [ inl l ↦ get_or-replicate 64 r 0 0 l | inr l ↦ get_or_past (replicate 64 0) r 0 l ] in
     ap (λ (b : ℕ). on b d) z ∙ on_zero d
 
--- No row has an item past its bytes, or past the bits of a byte.
-pub rule_past : (xs : List ℕ) (r d : ℕ) → length xs ≤ r → has xs r d ≡ false
-rule_past xs r d l = ap (λ (b : ℕ). on b d) (get_or_past xs r 0 l) ∙ on_zero d
-
+-- No byte of a row has an item past its bits.
 pub dot_past : (xs : List ℕ) (r d : ℕ) → get_or xs r 0 < 256 → 8 ≤ d → has xs r d ≡ false
 dot_past xs r d h l = on_past (get_or xs r 0) 8 d h l
 

@@ -1,6 +1,6 @@
 -- Moving the items of a row over a symbol.
-use Rattle.std.proofs.Common.{◌≡◌, ℕ, suc, ◌+◌, ◌<◌, true, ◌↔◌, length, sym, ap, ◌∙◌, subst, inr, ⊎_elim, arith, below_more}
-use Rattle.parsing.specs.Grammar.{Grammar, rhs}
+use Rattle.std.proofs.Common.{◌≡◌, ℕ, suc, ◌+◌, ◌<◌, true, ◌↔◌, sym, ap, ◌∙◌, subst, inr, ⊎_elim, arith, below_more}
+use Rattle.parsing.specs.Grammar.{Grammar}
 use Rattle.parsing.specs.Items.{Next}
 use Rattle.table_format.specs.ItemSets.{Items, Completed, Moved, Moves, StepTo}
 use Rattle.rows.specs.Changes.{Adds, Sweeps}
@@ -35,11 +35,5 @@ pub record Swept (g : Grammar) (v : Items) (X : ℕ) (m : Items) (n : ℕ) : Typ
   pub made : (q : ℕ) → q < n → (dot : ℕ) → v q dot ≡ true → Next g q dot X → m q (suc dot) ≡ true
 
 module _ (g : Grammar) (v : Items) (X : ℕ) (m : Items) where
-  pub swept_more : (w : Items) (r : ℕ) → Swept g v X m r → Sweeps g v X r m w (length (rhs g r)) → Swept g v X w (r + 1)
-  swept_more w r a s = record {
-    sound = λ q e k. ⊎_elim (λ p. a.sound q e p) (λ p. p) (s.sound q e k);
-    made = below_more _ r (λ q l dot p y. s.kept q (suc dot) (a.made q l dot p y)) (λ dot p y. s.made dot y.dot_in p y);
-  }
-
   pub step_row : (w : Items) → Moves g v X → ((r d : ℕ) → (m r d ≡ true) ↔ Moved g v X r d) → Completed g (λ r d. m r d ≡ true) w → StepTo g v X w
   step_row w a b c = record { moves = ∣ a ∣₁; row = completed_by g (λ r d. m r d ≡ true) (Moved g v X) w b c }

@@ -10,6 +10,7 @@ use crate::symbols::SymbolSet;
 use grammar::Grammar;
 
 impl Row {
+    // Not one walk with `sweep`, by a closure: another kind of set grows, and each promise is told of its own.
     /// Adds the symbols that come next in the items of one rule.
     fn gather(&self, grammar: &Grammar, rule: usize, next: &mut SymbolSet)
         requires { rule < rule_count (meaning grammar.now) }

@@ -14,6 +14,7 @@ pub struct Row {
 }
 
 impl Row {
+    // Beside `default`, whose contract does not tell the items.
     /// The row of no items.
     pub(crate) fn empty() -> Row
         ensures { (r d : ℕ) → items result r d ≡ false }
@@ -48,6 +49,7 @@ impl Row {
         rule < usize::from(grammar.rules()) && self.holds(rule, usize::from(grammar.length(rule)))
     }
 
+    // Asked in place of `==`, whose contract tells of the bytes and not of the items.
     /// Whether the rows have the same items: they have the same bytes then.
     pub fn same(&self, other: &Row) -> bool
         ensures items { MatchBool result (items self.now ≡ items other.now) (items self.now ≢ items other.now) }

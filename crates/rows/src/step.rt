@@ -9,16 +9,16 @@ ghost use Rattle.rows.specs.Changes.{Sweeps, Kernel};
 use crate::row::Row;
 use grammar::Grammar;
 
-// The grammar and the symbol are two parameters, and no value of their own: a row is asked for its step by a symbol.
+// No struct of the grammar with the symbol or the rule: the public functions of rows take them one by one.
 impl Row {
-    /// Adds to `moved` the items of one rule that have the symbol next, with the symbol passed.
-    fn sweep(&self, grammar: &Grammar, rule: usize, symbol: usize, moved: &mut Row)
+    /// Adds to `into` the items of one rule that have the symbol next, with the symbol passed.
+    fn sweep(&self, grammar: &Grammar, rule: usize, symbol: usize, into: &mut Row)
         requires { rule < rule_count (meaning grammar.now) }
-        ensures { Sweeps (meaning grammar.now) (items self.now) symbol rule (items moved.old) (items moved.new) (length (rhs (meaning grammar.now) rule)) }
+        ensures { Sweeps (meaning grammar.now) (items self.now) symbol rule (items into.old) (items into.new) (length (rhs (meaning grammar.now) rule)) }
     {
         for dot in 0..usize::from(grammar.length(rule)) {
             if self.holds(rule, dot) && usize::from(grammar.right(rule, dot)) == symbol {
-                moved.add(rule, dot + 1);
+                into.add(rule, dot + 1);
             }
         }
     }
@@ -38,10 +38,9 @@ impl Row {
     pub fn kernel(&self, grammar: &Grammar, symbol: usize) -> Option<Row>
         ensures { MatchOption result (NoStep (meaning grammar.now) (items self.now) symbol) (λ w. Kernel (meaning grammar.now) (items self.now) symbol (items w)) }
     {
-        if !self.next_symbols(grammar).has(symbol) {
-            return None;
-        }
-        Some(self.moved(grammar, symbol))
+        self.next_symbols(grammar)
+            .has(symbol)
+            .then(|| self.moved(grammar, symbol))
     }
 
     /// The step of the row by a symbol: none where the symbol comes next in no item.

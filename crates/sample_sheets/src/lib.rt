@@ -1,4 +1,4 @@
-//! Sheets to test with: the bytes of small grammars and of a table.
+//! Sheets to test with: the bytes of small grammars and of tables.
 #![tactic(auto)]
 
 /// The grammar sheet of P: the header from 0, the rules from 12, 21 and 30, and the spellings from 39, 40 and 44. The terminals are 0, the
@@ -27,6 +27,42 @@ pub static P_TABLE: [u8; 60] = *b"\
     \x00\x01\x00\
     \x00\x00\x00\
     \x00\x00\x01";
+
+/// The table sheet of P with a second state for the items of state 4, which state 5 steps to.
+pub static P_SECOND_FOUR: [u8; 68] = *b"\
+    \x00\x44\x00\x07\x00\x05\x00\x03\x00\x0c\x00\x2f\
+    \x01\xff\xff\xff\x02\
+    \xff\x03\xff\xff\xff\
+    \xff\xff\x04\xff\xff\
+    \xff\xff\xff\xff\xff\
+    \x01\xff\xff\xff\x05\
+    \xff\xff\x06\xff\xff\
+    \x01\xff\xff\xff\x05\
+    \x00\x00\x00\
+    \x00\x00\x00\
+    \x01\x00\x00\
+    \x00\x01\x00\
+    \x00\x00\x00\
+    \x00\x00\x01\
+    \x00\x00\x00";
+
+/// The table sheet of P with a state, the last, that nothing leads to.
+pub static P_IDLE: [u8; 68] = *b"\
+    \x00\x44\x00\x07\x00\x05\x00\x03\x00\x0c\x00\x2f\
+    \x01\xff\xff\xff\x02\
+    \xff\x03\xff\xff\xff\
+    \xff\xff\x04\xff\xff\
+    \xff\xff\xff\xff\xff\
+    \x01\xff\xff\xff\x05\
+    \xff\xff\x04\xff\xff\
+    \xff\xff\xff\xff\xff\
+    \x00\x00\x00\
+    \x00\x00\x00\
+    \x01\x00\x00\
+    \x00\x01\x00\
+    \x00\x00\x00\
+    \x00\x00\x01\
+    \x00\x00\x00";
 
 /// The grammar sheet of Q: the header from 0, the rules from 12, 21, 30 and 39, and the spellings from 48 and 49. The terminals are 0, the
 /// amount, and 1, `tin`; 2 is the goal, and 3 is two of 3, or `tin`, or nothing.

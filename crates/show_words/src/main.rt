@@ -2,11 +2,12 @@
 //! end or the refusal.
 #![tactic(auto)]
 
-use file_bytes::bytes_of;
+use file_bytes::{bytes_of, told};
 use std::io;
 use std::io::Read;
 use word_listing::report_words;
 
+// Stands in `sheet` and `key` too: nothing is known of what is read, so a public one would promise nothing.
 /// The bytes of the standard input.
 fn input(rt: &HostRuntime) -> io::Result<Vec<u8>> {
     let mut text = Vec::new(rt.alloc());
@@ -21,9 +22,5 @@ fn run(rt: &HostRuntime) -> io::Result<()> {
 }
 
 fn main(rt: HostRuntime) -> io::Result<()> {
-    let result = run(&rt);
-    if let Err(e) = &result {
-        eprintln!(rt; "show_words: {e}")?;
-    }
-    result
+    told(&rt, "show_words", run(&rt))
 }

@@ -3,28 +3,19 @@ use grammar::Grammar;
 use states::TableFault;
 use tables::Table;
 
-/// The answer to a table sheet.
+/// A refusal with this number, at these places.
 #[derive(Clone, Copy, PartialEq, Eq, Debug)]
-pub enum Answer {
-    /// It passes.
-    Passes,
-    /// It is refused with this number, at these places.
-    Refused(u8, usize, usize),
-}
+pub struct Refused(pub u8, pub usize, pub usize);
 
-impl From<TableFault> for Answer {
-    fn from(fault: TableFault) -> Answer {
+impl From<TableFault> for Refused {
+    fn from(fault: TableFault) -> Refused {
         let refusal = fault.refusal();
-        Answer::Refused(refusal.number, refusal.first, refusal.second)
+        Refused(refusal.number, refusal.first, refusal.second)
     }
 }
 
-impl Answer {
-    /// The answer to a table sheet for a grammar.
-    pub fn to(grammar: &Grammar, sheet: &[u8]) -> Answer {
-        match Table::check(grammar, sheet) {
-            Ok(_) => Answer::Passes,
-            Err(fault) => fault.into(),
-        }
-    }
+/// The answer to a table sheet for a grammar.
+pub fn answer(grammar: &Grammar, sheet: &[u8]) -> Result<(), Refused> {
+    Table::check(grammar, sheet)?;
+    Ok(())
 }

@@ -1,6 +1,5 @@
 //! How many states there may be: 255 are built, written and pass, and one more is refused.
-use crate::answers::Answer;
-use crate::answers::Answer::*;
+use crate::answers::{Refused, answer};
 use built_states::BuiltStates;
 use grammar::Grammar;
 use sample_sheets::CHAINS;
@@ -24,7 +23,7 @@ fn cut_chains(length: u8) -> [u8; 499] {
 }
 
 /// The states of a grammar sheet: how many are built, or why none.
-fn built(sheet: &[u8]) -> Result<Result<u8, Answer>, Fail> {
+fn built(sheet: &[u8]) -> Result<Result<u8, Refused>, Fail> {
     let grammar = Grammar::read(sheet)?;
     Ok(
         BuiltStates::build(&grammar)
@@ -49,6 +48,6 @@ fn the_longest_tables_pass(rt: HostRuntime) -> Result<(), Fail> {
     let length = BuiltStates::build(&grammar)?.write(&mut room)?;
     assert!(rt; length <= 32652);
     assert_eq!(rt; length, 12 + 255 * (42 + 41));
-    assert_eq!(rt; Answer::to(&grammar, &room[0..length]), Passes);
+    assert_eq!(rt; answer(&grammar, &room[0..length]), Ok(()));
     Ok(())
 }

@@ -9,16 +9,17 @@ use std::test::Fail;
 use tables::Table;
 
 /// The rows of P: for each state the bytes of its rules, bit d of byte r for the item (r, d).
-static P_ROWS: [[u8; 3]; 6] = [
-    [1, 1, 1],
-    [0, 2, 0],
-    [2, 0, 2],
-    [0, 4, 0],
-    [0, 1, 5],
-    [0, 0, 10],
+static P_ROWS: [&[u8]; 6] = [
+    &[1, 1, 1],
+    &[0, 2, 0],
+    &[2, 0, 2],
+    &[0, 4, 0],
+    &[0, 1, 5],
+    &[0, 0, 10],
 ];
 
-/// The steps of P: for each state the target by each symbol, 255 for none.
+// 255 for none, as in the sheet: so the rows stay short.
+/// The steps of P: for each state the target by each symbol.
 static P_STEPS: [[u8; 5]; 6] = [
     [1, 255, 255, 255, 2],
     [255, 3, 255, 255, 255],
@@ -32,10 +33,26 @@ static P_STEPS: [[u8; 5]; 6] = [
 static P_DONE: [Option<u8>; 6] = [None, None, Some(0), Some(1), None, Some(2)];
 
 /// The rows of Q.
-static Q_ROWS: [[u8; 4]; 4] = [[1, 1, 1, 1], [0, 0, 2, 0], [2, 3, 1, 1], [0, 7, 1, 1]];
+static Q_ROWS: [&[u8]; 4] = [&[1, 1, 1, 1], &[0, 0, 2, 0], &[2, 3, 1, 1], &[0, 7, 1, 1]];
+
+/// The rows of the states have exactly the items that the bytes of their rules say.
+fn check_rows<F: Fn(u8) -> Option<Row>>(
+    rt: &impl Abort,
+    row_of: F,
+    rows: &[&[u8]],
+) -> Result<(), Fail>
+    requires { F.IsAlwaysCallable row_of }
+{
+    for (state, bytes) in rows.iter().enumerate() {
+        let state = u8::try_from(state).map_err(|_| "too many states")?;
+        let row = row_of(state).ok_or("no such state")?;
+        check_row(rt, state, &row, bytes);
+    }
+    Ok(())
+}
 
 /// The row has exactly the items that the bytes of the rules say.
-fn check_row(rt: &impl Abort, state: usize, row: Row, bytes: &[u8]) -> Result<(), Fail> {
+fn check_row(rt: &impl Abort, state: u8, row: &Row, bytes: &[u8]) {
     for rule in 0..64 {
         let byte = bytes.get(rule).copied().unwrap_or(0);
         for dot in 0..8u8 {
@@ -46,7 +63,6 @@ fn check_row(rt: &impl Abort, state: usize, row: Row, bytes: &[u8]) -> Result<()
             );
         }
     }
-    Ok(())
 }
 
 /// The source answers the steps and the done marks of P, and nothing outside the ranges.
@@ -61,7 +77,7 @@ fn check_source<S: StateSource>(rt: &impl Abort, source: &S) {
                 .copied()
                 .filter(|target| *target != 255);
             assert_eq!(rt; source.next(state, symbol), expected, "{state}; {symbol}");
-            let done = P_DONE.get(usize::from(state)).copied().unwrap_or(None);
+            let done = P_DONE.get(usize::from(state)).copied().flatten();
             assert_eq!(rt;
                 source.done(state, symbol),
                 done == Some(symbol),
@@ -74,22 +90,17 @@ fn check_source<S: StateSource>(rt: &impl Abort, source: &S) {
 #[test]
 fn built_states_of_p(rt: HostRuntime) -> Result<(), Fail> {
     let built = BuiltStates::build(&Grammar::read(&P)?)?;
-    for (state, bytes) in P_ROWS.iter().enumerate() {
-        let row = built.row(state as u8).ok_or("no such state")?;
-        check_row(&rt, state, row, bytes)?;
-    }
+    check_rows(&rt, |state| built.row(state), &P_ROWS)?;
     assert!(rt; built.row(6).is_none());
     check_source(&rt, &built);
     Ok(())
 }
 
+// Not one function with `built_states_of_p`: `row` is no question of a source.
 #[test]
 fn table_of_p(rt: HostRuntime) -> Result<(), Fail> {
     let table = Table::check(&Grammar::read(&P)?, &P_TABLE)?;
-    for (state, bytes) in P_ROWS.iter().enumerate() {
-        let row = table.row(state as u8).ok_or("no such state")?;
-        check_row(&rt, state, row, bytes)?;
-    }
+    check_rows(&rt, |state| table.row(state), &P_ROWS)?;
     assert!(rt; table.row(6).is_none());
     check_source(&rt, &table);
     Ok(())
@@ -99,9 +110,5 @@ fn table_of_p(rt: HostRuntime) -> Result<(), Fail> {
 fn built_states_of_q(rt: HostRuntime) -> Result<(), Fail> {
     let built = BuiltStates::build(&Grammar::read(&Q)?)?;
     assert_eq!(rt; built.states(), 4);
-    for (state, bytes) in Q_ROWS.iter().enumerate() {
-        let row = built.row(state as u8).ok_or("no such state")?;
-        check_row(&rt, state, row, bytes)?;
-    }
-    Ok(())
+    check_rows(&rt, |state| built.row(state), &Q_ROWS)
 }

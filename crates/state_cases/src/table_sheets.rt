@@ -1,12 +1,11 @@
 //! Table sheets of P: the right one, others like it with one thing wrong, and one with other numbers for the states.
-use crate::answers::Answer;
-use crate::answers::Answer::*;
+use crate::answers::{Refused, answer};
 use grammar::Grammar;
-use sample_sheets::{P, P_TABLE};
+use sample_sheets::{P, P_IDLE, P_SECOND_FOUR, P_TABLE};
 use std::test::Fail;
 
 /// A byte that is put into the table of P, and the answer then.
-static CASES: [(usize, u8, Answer); 17] = [
+static CASES: [(usize, u8, Refused); 17] = [
     (1, 61, Refused(20, 0, 0)),
     (3, 0, Refused(21, 0, 0)),
     (2, 1, Refused(21, 0, 0)),
@@ -27,7 +26,7 @@ static CASES: [(usize, u8, Answer); 17] = [
 ];
 
 /// Whole sheets for P, and the answer to each.
-static SHEETS: [(&[u8], Answer); 5] = [
+static SHEETS: [(&[u8], Result<(), Refused>); 3] = [
     // The state k, for each but 0, is called 6 - k.
     (
         b"\
@@ -44,47 +43,7 @@ static SHEETS: [(&[u8], Answer); 5] = [
         \x00\x01\x00\
         \x01\x00\x00\
         \x00\x00\x00",
-        Passes,
-    ),
-    // The state 6 is a second 4, to which 5 steps.
-    (
-        b"\
-        \x00\x44\x00\x07\x00\x05\x00\x03\x00\x0c\x00\x2f\
-        \x01\xff\xff\xff\x02\
-        \xff\x03\xff\xff\xff\
-        \xff\xff\x04\xff\xff\
-        \xff\xff\xff\xff\xff\
-        \x01\xff\xff\xff\x05\
-        \xff\xff\x06\xff\xff\
-        \x01\xff\xff\xff\x05\
-        \x00\x00\x00\
-        \x00\x00\x00\
-        \x01\x00\x00\
-        \x00\x01\x00\
-        \x00\x00\x00\
-        \x00\x00\x01\
-        \x00\x00\x00",
-        Refused(27, 5, 2),
-    ),
-    // No state steps to 6.
-    (
-        b"\
-        \x00\x44\x00\x07\x00\x05\x00\x03\x00\x0c\x00\x2f\
-        \x01\xff\xff\xff\x02\
-        \xff\x03\xff\xff\xff\
-        \xff\xff\x04\xff\xff\
-        \xff\xff\xff\xff\xff\
-        \x01\xff\xff\xff\x05\
-        \xff\xff\x04\xff\xff\
-        \xff\xff\xff\xff\xff\
-        \x00\x00\x00\
-        \x00\x00\x00\
-        \x01\x00\x00\
-        \x00\x01\x00\
-        \x00\x00\x00\
-        \x00\x00\x01\
-        \x00\x00\x00",
-        Refused(29, 6, 0),
+        Ok(()),
     ),
     // A byte too many, which the header tells.
     (
@@ -103,7 +62,7 @@ static SHEETS: [(&[u8], Answer); 5] = [
         \x00\x00\x00\
         \x00\x00\x01\
         \x00",
-        Refused(22, 0, 0),
+        Err(Refused(22, 0, 0)),
     ),
     // One state alone, with no steps and no marks.
     (
@@ -111,19 +70,19 @@ static SHEETS: [(&[u8], Answer); 5] = [
         \x00\x14\x00\x01\x00\x05\x00\x03\x00\x0c\x00\x11\
         \xff\xff\xff\xff\xff\
         \x00\x00\x00",
-        Refused(25, 0, 0),
+        Err(Refused(25, 0, 0)),
     ),
 ];
 
 #[test]
 fn a_wrong_byte_is_told_with_its_places(rt: HostRuntime) -> Result<(), Fail> {
     let grammar = Grammar::read(&P)?;
-    assert_eq!(rt; Answer::to(&grammar, &P_TABLE), Passes);
-    for (offset, byte, answer) in CASES {
+    assert_eq!(rt; answer(&grammar, &P_TABLE), Ok(()));
+    for (offset, byte, refused) in CASES {
         let mut sheet = P_TABLE;
         assert!(rt; offset < 60);
         sheet[offset] = byte;
-        assert_eq!(rt; Answer::to(&grammar, &sheet), answer, "{offset}");
+        assert_eq!(rt; answer(&grammar, &sheet), Err(refused), "{offset}");
     }
     Ok(())
 }
@@ -131,9 +90,11 @@ fn a_wrong_byte_is_told_with_its_places(rt: HostRuntime) -> Result<(), Fail> {
 #[test]
 fn whole_sheets_are_answered(rt: HostRuntime) -> Result<(), Fail> {
     let grammar = Grammar::read(&P)?;
-    for (sheet, answer) in SHEETS {
-        assert_eq!(rt; Answer::to(&grammar, sheet), answer);
+    for (sheet, expected) in SHEETS {
+        assert_eq!(rt; answer(&grammar, sheet), expected);
     }
+    assert_eq!(rt; answer(&grammar, &P_SECOND_FOUR), Err(Refused(27, 5, 2)));
+    assert_eq!(rt; answer(&grammar, &P_IDLE), Err(Refused(29, 6, 0)));
     Ok(())
 }
 
@@ -142,8 +103,8 @@ fn a_sheet_that_is_cut_short_is_refused(rt: HostRuntime) -> Result<(), Fail> {
     let grammar = Grammar::read(&P)?;
     for length in 0..60 {
         assert_eq!(rt;
-            Answer::to(&grammar, &P_TABLE[0..length]),
-            Refused(20, 0, 0),
+            answer(&grammar, &P_TABLE[0..length]),
+            Err(Refused(20, 0, 0)),
             "{length}"
         );
     }

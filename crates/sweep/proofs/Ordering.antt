@@ -1,9 +1,12 @@
 -- What the order of nodes says of a list that is in order.
-use Rattle.std.proofs.Common.{◌≡◌, ℕ, ◌+◌, ◌-◌, ◌<◌, ◌≤◌, Bool, true, false, ◌&&◌, ◌||◌, nat_lt, nat_eq, eqb-true, ◌⊎◌, List, length, get_or, take, drop, Some, Ordering, Less, Equal, Greater, sym, refl, ap, ◌∙◌, subst, inl, inr, arith}
+use Rattle.std.proofs.Common.{◌≡◌, ℕ, ◌+◌, ◌-◌, ◌<◌, ◌≤◌, Bool, true, false, ◌&&◌, ◌||◌, nat_lt, nat_eq, eqb-true, ◌⊎◌, List, length, get_or, take, drop, map, Option, Some, None, MatchOption, Ordering, Less, Equal, Greater, sym, refl, ap, ◌∙◌, subst, inl, inr, arith}
 use Rattle.std.specs.Ordering.{ordering_then, nat_cmp}
 use Rattle.std.proofs.lemmas.Cmp.{ranked}
-use Rattle.std.specs.List.{slice_get}
-use Rattle.std.proofs.lemmas.List.{take_rest, length-drop, get_or-drop, length-take-le, get_or-take}
+use Rattle.std.specs.Bool.{then_some}
+use Rattle.std.specs.List.{slice_get, prefix_len, AllWithin, HoldsAt}
+use Rattle.std.proofs.lemmas.List.Folds.{length-prefix_len}
+use Rattle.std.proofs.lemmas.List.Sums.{prefix_len-le-length, prefix_len_passes, prefix_len_stops}
+use Rattle.std.proofs.lemmas.List.{take_rest, length-drop, get_or-drop, length-take-le, get_or-take, get_or-map, get_or_default, length-map}
 use Rattle.std.proofs.lemmas.Option.{slice_get_within, get_or_from_slice_get}
 use Rattle.std.specs.List.Sorted.{IsPartitionedBy, IsPartitionPoint}
 use Rattle.std.proofs.lemmas.Bool.{cases_lt, or_cases, and_parts, false≢true}
@@ -12,7 +15,7 @@ use borrow.Author.Tests.{ltb-true}
 use Rattle.register.specs.Registers.{Has, Climbs}
 use Rattle.records.specs.declared.node.Node.{Node}
 use Rattle.records.specs.Orders.{node_cmp, by_node}
-use Rattle.sweep.specs.Finding.{node_at, node_of, Before, LowerBound, AllDone, NoneBelow}
+use Rattle.sweep.specs.Finding.{node_at, node_of, Before, LowerBound, AllDone, Open, NoneBelow}
 
 split : (a b : Ordering) → ordering_then a b ≡ Less → (a ≡ Less) ⊎ ((a ≡ Equal) × (b ≡ Less))
 split Less b h = inl refl
@@ -55,6 +58,10 @@ below_before x y i j (inl l) (inr (e, m)) = inl (omega arith)
 below_before x y i j (inr (e, b)) (inl m) = inl (omega arith)
 below_before x y i j (inr (e, inl l)) (inr (f, m)) = inr (e ∙ f, omega arith)
 below_before x y i j (inr (e, inr (d, l))) (inr (f, m)) = inr (e ∙ f, omega arith)
+
+-- The test that a node is from i to j.
+abbrev pub stands : ℕ → ℕ → Node → Bool
+stands i j y = nat_eq y.from i && nat_eq y.to j
 
 module _ (us : List Node) (i j k : ℕ) where
   -- In order, the nodes that come before stand before the others.
@@ -181,3 +188,59 @@ module _ (us : List Node) (i j k : ℕ) (bound : LowerBound us i j k) where
   run_from_tail done m r t kt tm =
       let q : k + (t - k) ≡ t = omega arith in
       subst (λ (y : Node). (y.from ≡ i) × (y.to ≡ j) × (get_or done y.symbol false ≡ true)) (tail_node (t - k) ∙ ap (node_of us) q) (r (t - k) (omega arith))
+
+  -- How many nodes of the tail stand together, from i to j, and their symbols.
+  abbrev pub together : ℕ
+  together = prefix_len (stands i j) tail
+
+  abbrev pub symbols : List ℕ
+  symbols = map (λ (y : Node). y.symbol) (take together tail)
+
+  long : length symbols ≡ together
+  long = length-map (take together tail) (λ (y : Node). y.symbol) ∙ length-prefix_len (stands i j) tail
+
+  at_symbol : (t d : ℕ) → t < together → get_or symbols t d ≡ (node_of tail t).symbol
+  at_symbol t d l =
+      get_or-map (λ (y : Node). y.symbol) (take together tail) t (node_at 0 0 0) d (let n = length-prefix_len (stands i j) tail in omega arith)
+      ∙ ap (λ (y : Node). y.symbol) (get_or-take together tail t (node_at 0 0 0) l)
+
+  in_run : (t : ℕ) → t < together → ((node_of tail t).from ≡ i) × ((node_of tail t).to ≡ j)
+  in_run t l =
+      let y = node_of tail t in
+      let (a, b) = and_parts (nat_eq y.from i) (nat_eq y.to j) (prefix_len_passes (stands i j) tail t (node_at 0 0 0) l) in
+      (eqb-true y.from i a, eqb-true y.to j b)
+
+  past_run : together < length tail → (node_of tail together).from ≡ i → (node_of tail together).to ≡ j → ⊥
+  past_run l e f =
+      let s : stands i j (node_of tail together) ≡ false = prefix_len_stops (stands i j) tail (node_at 0 0 0) l in
+      grind (arith, nat_tests)
+
+  pub run_done : (done : List Bool) → AllWithin (λ x. get_or done x false ≡ true) symbols 0 (length symbols) → Climbs by_node us → AllDone us i j done
+  run_done done h =
+      run_all done (k + together) (omega arith)
+      (λ l e f. past_run (let n = tail_length in omega arith) (ap (λ (y : Node). y.from) (tail_node together) ∙ e) (ap (λ (y : Node). y.to) (tail_node together) ∙ f))
+      (run_from_tail done together
+      (λ t l. let (a, b) = in_run t l in
+      (a, b, subst (λ x. get_or done x false ≡ true) (at_symbol t 0 l) (h t 0 (omega arith) (let n = long in omega arith)))))
+
+  pub run_open : (done : List Bool) (x t : ℕ) → x < 256 → get_or done x false ≡ false → t < length symbols → HoldsAt (λ y. y ≡ x) symbols t → Open us i j done x
+  run_open done x t small fresh l at =
+      let m : t < together = (let n = long in omega arith) in
+      let y = node_of tail t in
+      let (a, b) = in_run t m in
+      let q : y.symbol ≡ x = sym (at_symbol t 0 m) ∙ at 0 in
+      let same : y ≡ node_at x i j = λ r. record { from = a r; to = b r; symbol = q r } in
+      let kt : k + t < length us = (let n = tail_length in let p = prefix_len-le-length (stands i j) tail in omega arith) in
+      record {
+        held = (k + t, kt, λ d. get_or_default us (k + t) d (node_at 0 0 0) kt ∙ sym (tail_node t) ∙ same);
+        fresh = fresh;
+        small = small;
+      }
+
+pub match_as : (r : Option ℕ) (A C : Type 0) (B D : ℕ → Type 0) → (A → C) → ((x : ℕ) → r ≡ Some x → B x → D x) → MatchOption r A B → MatchOption r C D
+match_as None A C B D f g m = f m
+match_as (Some x) A C B D f g m = g x refl m
+
+pub match_some : (r : Option ℕ) (t : Bool) (v : ℕ) (A : Type 0) (B : ℕ → Type 0) → r ≡ then_some t v → (t ≡ false → A) → (t ≡ true → B v) → MatchOption r A B
+match_some r true v A B e f g = subst (λ o. MatchOption o A B) (sym e) (g refl)
+match_some r false v A B e f g = subst (λ o. MatchOption o A B) (sym e) (f refl)

@@ -24,16 +24,11 @@ pub(crate) fn open_symbol(
     ensures { MatchOption result (Climbs by_node (held nodes.now) → AllDone (held nodes.now) i j done.now) (Open (held nodes.now) i j done.now) }
 {
     let records = nodes.records();
-    let start = lower_bound(records, i, j);
-    for node in &records[start..] {
-        if node.from != i || node.to != j {
-            return None;
-        }
-        if !done[usize::from(node.symbol)] {
-            return Some(node.symbol);
-        }
-    }
-    None
+    records[lower_bound(records, i, j)..]
+        .iter()
+        .take_while(|node| node.from == i && node.to == j)
+        .map(|node| node.symbol)
+        .find(|symbol| !done[usize::from(*symbol)])
 }
 
 /// The last place before the limit at which a node from i ends.
@@ -42,9 +37,5 @@ pub(crate) fn last_end(nodes: &Register<'_, Node>, i: u8, limit: u8) -> Option<u
 {
     let records = nodes.records();
     let node = records[..lower_bound(records, i, limit)].last()?;
-    if node.from == i && node.to < limit {
-        Some(node.to)
-    } else {
-        None
-    }
+    (node.from == i && node.to < limit).then_some(node.to)
 }

@@ -1,5 +1,5 @@
 //! All nodes that are met from the top.
-ghost use Rattle.std.specs.Prelude.{◌≡◌, ◌+◌, ◌<◌, false, replicate};
+ghost use Rattle.std.specs.Prelude.{◌+◌, ◌<◌};
 ghost use Rattle.records.specs.declared.node.Node.{Node as NodeRecord};
 ghost use Rattle.sweep.specs.Sweeps.{Past, Settles, Collected};
 
@@ -9,14 +9,8 @@ use records::Node;
 use register::{Full, Register};
 use states::StateSource;
 
-/// No symbol is done.
-fn none_done() -> [bool; 256]
-    ensures { result ≡ replicate 256 false }
-{
-    [false; 256]
-}
-
-// The source and the spans stay two parameters: `put_parts` asks for both, so a pair would be made only to be taken apart.
+// The source, the spans and the nodes stay parameters: `put_parts` asks for each, so a struct of them would be made only to be taken apart.
+// So do i and j: the symbol of the node between them is asked for.
 /// Adds the parts of the nodes from i to j until there are no more.
 fn settle<S: StateSource, F: Fits>(
     source: &S,
@@ -27,7 +21,8 @@ fn settle<S: StateSource, F: Fits>(
 ) -> Result<(), Full>
     ensures { Settles (S.StateSource.meaning source.now).grammar (F.Fits.says spans.now) (Past i (j + 1)) (Past i j) nodes.old nodes.new result }
 {
-    let mut done = none_done();
+    // Not a `SymbolSet`, which has room for symbols below 64: a node that is handed in may have another.
+    let mut done = [false; 256];
     while let Some(symbol) = open_symbol(nodes, i, j, &done) {
         put_parts(
             source,

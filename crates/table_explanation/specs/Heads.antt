@@ -8,9 +8,9 @@ use Rattle.table_explanation.specs.declared.fields.Header.{Header}
 
 pub record Tells (b : List ℕ) (h : Header) : Type 0 where
   pub length_is : h.length ≡ number b 0
-  pub states_are : h.states ≡ states_told b
-  pub symbols_are : h.symbols ≡ symbols_told b
-  pub rules_are : h.rules ≡ rules_told b
+  pub states_are : h.layout.states ≡ states_told b
+  pub symbols_are : h.layout.symbols ≡ symbols_told b
+  pub rules_are : h.layout.rules ≡ rules_told b
   pub steps_are_at : h.steps_at ≡ number b 8
   pub marks_are_at : h.marks_at ≡ number b 10
 

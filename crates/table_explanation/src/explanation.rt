@@ -2,9 +2,9 @@
 use crate::fields::{Header, byte, cell, mark_byte, step_byte};
 use grammar::Grammar;
 use inspection::{Name, RuleText};
-use rows::Row;
 use states::TableFault;
 use std::fmt;
+use table_layout::Layout;
 use table_text::RowText;
 use tables::Finding;
 
@@ -17,8 +17,8 @@ pub struct TableExplanation<'a> {
 }
 
 impl TableExplanation<'_> {
-    /// The line on what is wrong with a header.
-    fn explain_header<W: fmt::Write>(&self, f: &mut fmt::Formatter<W>) -> fmt::Result {
+    /// The line on the length of the sheet.
+    fn explain_length<W: fmt::Write>(&self, f: &mut fmt::Formatter<W>) -> fmt::Result {
         let size = self.sheet.len();
         let Some(header) = Header::of(self.sheet) else {
             return writeln!(
@@ -26,37 +26,49 @@ impl TableExplanation<'_> {
                 "The length of the sheet is {size}, too little for a header."
             );
         };
-        let Header {
-            length,
+        let length = header.length;
+        writeln!(
+            f,
+            "The length of the sheet is {size}, and its header tells {length}."
+        )
+    }
+
+    /// The line on the counts in the header.
+    fn explain_counts<W: fmt::Write>(&self, f: &mut fmt::Formatter<W>) -> fmt::Result {
+        let Some(header) = Header::of(self.sheet) else {
+            return self.explain_length(f);
+        };
+        let Layout {
             states,
             symbols,
             rules,
+        } = header.layout;
+        let wanted_symbols = self.grammar.symbols();
+        let wanted_rules = self.grammar.rules();
+        writeln!(
+            f,
+            "The header tells states: {states}, symbols: {symbols}, rules: {rules}; the grammar has symbols: {wanted_symbols}, rules: {wanted_rules}."
+        )
+    }
+
+    /// The line on the offsets in the header.
+    fn explain_offsets<W: fmt::Write>(&self, f: &mut fmt::Formatter<W>) -> fmt::Result {
+        let size = self.sheet.len();
+        let Some(header) = Header::of(self.sheet) else {
+            return self.explain_length(f);
+        };
+        let Header {
+            layout,
             steps_at,
             marks_at,
+            ..
         } = header;
-        match self.finding.fault {
-            TableFault::CountRange => {
-                let grammar = self.grammar;
-                let wanted_symbols = grammar.symbols();
-                let wanted_rules = grammar.rules();
-                writeln!(
-                    f,
-                    "The header tells states: {states}, symbols: {symbols}, rules: {rules}; the grammar has symbols: {wanted_symbols}, rules: {wanted_rules}."
-                )
-            }
-            TableFault::Offset => {
-                let wanted = header.steps_end();
-                let end = header.marks_end();
-                writeln!(
-                    f,
-                    "The header tells steps from byte {steps_at} on and done marks from byte {marks_at} on, and the length of the sheet is {size}; by its counts these are 12, {wanted} and {end}."
-                )
-            }
-            _ => writeln!(
-                f,
-                "The length of the sheet is {size}, and its header tells {length}."
-            ),
-        }
+        let wanted = layout.marks_at();
+        let end = layout.sheet_len();
+        writeln!(
+            f,
+            "The header tells steps from byte {steps_at} on and done marks from byte {marks_at} on, and the length of the sheet is {size}; by its counts these are 12, {wanted} and {end}."
+        )
     }
 
     /// The line on a byte that is out of range.
@@ -68,7 +80,7 @@ impl TableExplanation<'_> {
         };
         let marks_at = usize::from(header.marks_at);
         if offset < marks_at {
-            let states = header.states;
+            let states = header.layout.states;
             let symbols = grammar.symbols();
             let (state, symbol) = cell(offset.saturating_sub(12), symbols);
             let name = Name::of(grammar, symbol);
@@ -107,6 +119,7 @@ impl TableExplanation<'_> {
                 f,
                 "State {state} steps by `{name}` to state {target}, which is known with other items than those wanted."
             ),
+            // `KnownRow`, unnamed: the other faults, which are of no step, do not come here.
             _ => writeln!(
                 f,
                 "State {state} steps by `{name}` to state {target}, which is new, while another state has the items wanted."
@@ -126,22 +139,32 @@ impl TableExplanation<'_> {
             rule: usize::from(rule),
         };
         let mark = mark_byte(self.sheet, state, rule);
-        let wanted = if mark == 0 { 1 } else { 0 };
+        let wanted = u8::from(mark == 0);
         writeln!(
             f,
             "State {state} has the done mark {mark} for rule {rule}, `{text}`, and {wanted} is wanted."
         )
     }
 
-    /// The line on what is wrong, and where.
+    /// The line on what is wrong and where, and the items that it is about.
     fn explain<W: fmt::Write>(&self, f: &mut fmt::Formatter<W>) -> fmt::Result {
         match self.finding.fault {
+            TableFault::WholeLength => self.explain_length(f),
+            TableFault::CountRange => self.explain_counts(f),
+            TableFault::Offset => self.explain_offsets(f),
             TableFault::ByteRange { offset } => self.explain_byte(f, offset),
             TableFault::StepWhereNone { state, symbol }
             | TableFault::StepLacking { state, symbol }
             | TableFault::OtherRow { state, symbol }
-            | TableFault::KnownRow { state, symbol } => self.explain_step(f, state, symbol),
-            TableFault::MarkWrong { state, rule } => self.explain_mark(f, state, rule),
+            | TableFault::KnownRow { state, symbol } => {
+                self.explain_step(f, state, symbol)?;
+                self.show_items(f, state)?;
+                self.show_wanted(f, symbol)
+            }
+            TableFault::MarkWrong { state, rule } => {
+                self.explain_mark(f, state, rule)?;
+                self.show_items(f, state)
+            }
             TableFault::NeverReached { state } => writeln!(
                 f,
                 "State {state} is not reached from state 0 by any steps."
@@ -154,47 +177,33 @@ impl TableExplanation<'_> {
                 f,
                 "The room to write the sheet has fewer than {need} bytes."
             ),
-            _ => self.explain_header(f),
         }
     }
 
-    /// The items of the state that has a wrong step by a symbol, and the items of the state that the step wants.
-    fn show_step_items<W: fmt::Write>(
-        &self,
-        f: &mut fmt::Formatter<W>,
-        row: &Row,
-        state: u8,
-        symbol: u8,
-    ) -> fmt::Result {
+    /// The items of the state that the fault is in, if its row is known.
+    fn show_items<W: fmt::Write>(&self, f: &mut fmt::Formatter<W>, state: u8) -> fmt::Result {
+        let Some(row) = &self.finding.row else {
+            return Ok(());
+        };
+        let items = RowText {
+            grammar: self.grammar,
+            row,
+        };
+        write!(f, "The items of state {state}:\n{items}")
+    }
+
+    /// The items of the state that a step by a symbol wants, if the row that it goes from is known and has such a step.
+    fn show_wanted<W: fmt::Write>(&self, f: &mut fmt::Formatter<W>, symbol: u8) -> fmt::Result {
         let grammar = self.grammar;
-        let items = RowText { grammar, row };
-        write!(f, "The items of state {state}:\n{items}")?;
-        if let Some(wanted) = row.step(grammar, usize::from(symbol)) {
-            let items = RowText {
-                grammar,
-                row: &wanted,
-            };
-            write!(f, "The items of the state wanted:\n{items}")?;
-        }
-        Ok(())
-    }
-
-    /// The items that the fault is about, which are those of a row.
-    fn show_items<W: fmt::Write>(&self, f: &mut fmt::Formatter<W>, row: &Row) -> fmt::Result {
-        match self.finding.fault {
-            TableFault::StepWhereNone { state, symbol }
-            | TableFault::StepLacking { state, symbol }
-            | TableFault::OtherRow { state, symbol }
-            | TableFault::KnownRow { state, symbol } => self.show_step_items(f, row, state, symbol),
-            TableFault::MarkWrong { state, .. } => {
-                let items = RowText {
-                    grammar: self.grammar,
-                    row,
-                };
-                write!(f, "The items of state {state}:\n{items}")
-            }
-            _ => Ok(()),
-        }
+        let Some(row) = self
+            .finding
+            .row
+            .and_then(|row| row.step(grammar, usize::from(symbol)))
+        else {
+            return Ok(());
+        };
+        let items = RowText { grammar, row: &row };
+        write!(f, "The items of the state wanted:\n{items}")
     }
 
     /// The rule that the fault breaks.
@@ -229,9 +238,6 @@ impl TableExplanation<'_> {
 impl fmt::Display for TableExplanation<'_> {
     fn fmt<W: fmt::Write>(&self, f: &mut fmt::Formatter<W>) -> fmt::Result {
         self.explain(f)?;
-        if let Some(row) = &self.finding.row {
-            self.show_items(f, row)?;
-        }
         writeln!(f, "{}", self.rule())
     }
 }

@@ -34,10 +34,10 @@ pub supplied_report : (g : Grammar) (b : List ℕ) (t : Table) (text : List ℕ)
 supplied_report g b t text some a e = TableReport.supplied (rows_of t) some (passed g b t a) (e ∙ text_is g b t (codes "supplied") a)
 
 pub built_report : (g : Grammar) (states : BuiltStates) (d : List ℕ) (t : Table) (text : List ℕ) → states.grammar ≡ g
-    → Built (meaning g) states.count states.rows states.steps → d ≡ built_sheet states → Accepted g d t
+    → Built (meaning g) states.building.count states.building.rows states.building.steps → d ≡ built_sheet states → Accepted g d t
     → text ≡ text_of g t (codes "built and written") (length d) → (b : List ℕ) → length b ≡ 0 → TableReport (sheet g) b text
 built_report g states d t text same made i a e b none =
     let whole = i ∙ sheet_is g states same in
-    TableReport.built states.count states.rows states.steps (rows_of t) none made
+    TableReport.built states.building.count states.building.rows states.building.steps (rows_of t) none made
     (subst (λ x. Passes (meaning g) x (rows_of t)) whole (passed g d t a))
     (e ∙ text_is g d t (codes "built and written") a ∙ ap (λ x. listing (sheet g) x (rows_of t) (codes "built and written")) whole)

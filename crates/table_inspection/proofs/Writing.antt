@@ -1,5 +1,5 @@
 -- What is written of built states is not refused.
-use Rattle.std.proofs.Common.{◌≡◌, ℕ, List, Ok, Err, Result, MatchResult, IsOk, sym, refl, ap, ◌∙◌, subst, arith}
+use Rattle.std.proofs.Common.{◌≡◌, ℕ, List, Ok, Err, Result, MatchResult, IsOk, sym, refl, ap, subst, arith}
 use Rattle.grammar.specs.Meaning.{meaning}
 use Rattle.grammar.specs.declared.grammar.Grammar.{Grammar}
 use Rattle.states.specs.Refusals.{outcome}
@@ -20,9 +20,9 @@ unwraps P Q (Err e) h n = absurd (n e h)
 
 -- The sheet of states that are built for a grammar is that of their table.
 pub sheet_is : (g : Grammar) (states : BuiltStates) → states.grammar ≡ g
-    → sheet states ≡ table_bytes (meaning g) (built_table (meaning g) states.count states.rows states.steps)
+    → sheet states ≡ table_bytes (meaning g) (built_table (meaning g) states.building.count states.building.rows states.building.steps)
 unfolding sheet
-sheet_is g states e = ap (λ h. table_bytes (meaning h) (built_table (meaning h) states.count states.rows states.steps)) e
+sheet_is g states e = ap (λ h. table_bytes (meaning h) (built_table (meaning h) states.building.count states.building.rows states.building.steps)) e
 
 -- Bytes that pass are not refused.
 one_answer : (g : Grammar) (b : List ℕ) (f : TableFault) → Checked (meaning g) b passes → Refused (meaning g) b f → ⊥

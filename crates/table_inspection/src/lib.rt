@@ -1,4 +1,4 @@
-//! What is told of a table sheet: the report that `inspect` prints of it, and of the grammar sheet that it is for.
+//! What is told of a table sheet: the report that `inspect_tables` prints of it, and of the grammar sheet that it is for.
 #![tactic(auto)]
 
 mod reporting;

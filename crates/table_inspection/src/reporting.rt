@@ -1,6 +1,7 @@
 //! The report of a table sheet for a grammar, and of both sheets.
-ghost use Rattle.std.specs.Prelude.{◌≡◌, ℕ, List, ◌++◌, length, IfOk, string_bytes, codes};
+ghost use Rattle.std.specs.Prelude.{◌≡◌, ℕ, List, ◌++◌, length, IfOk, string_bytes};
 ghost use Rattle.grammar.specs.Meaning.{sheet as sheet_of, meaning};
+ghost use Rattle.built_states.specs.Meaning.{Builds};
 ghost use Rattle.built_states.specs.Writing.{sheet as built_sheet};
 ghost use Rattle.table_format.specs.Breaches.{Checked};
 ghost use Rattle.table_format.specs.Walks.{passes};
@@ -10,7 +11,7 @@ ghost use Rattle.table_inspection.specs.Reports.{passing_line, refusal_text, Tab
 
 use built_states::BuiltStates;
 use grammar::Grammar;
-use inspection::report;
+use inspection::{refusal_report, report};
 use std::alloc::{AllocError, Global};
 use table_explanation::TableExplanation;
 use table_text::TableText;
@@ -27,9 +28,7 @@ fn listed(heap: Global, listing: TableText, how: &str, size: usize) -> Result<St
 fn refused(heap: Global, explanation: TableExplanation) -> Result<String, AllocError>
     ensures { IfOk result (λ text. (words : List ℕ) × (string_bytes text ≡ refusal_text explanation.entry.finding.fault words)) }
 {
-    let line = explanation.finding.fault.refusal();
-    let words = explanation.to_string(heap)?;
-    format!(in heap; "{line}\n{words}")
+    refusal_report(heap, explanation.finding.fault.refusal(), &explanation)
 }
 
 /// The table sheet of built states.
@@ -41,31 +40,38 @@ fn written(heap: Global, states: &BuiltStates) -> Result<Vec<u8>, AllocError>
     Ok(room)
 }
 
-/// The report of the states that are built from a grammar.
-fn built(heap: Global, grammar: &Grammar) -> Result<String, AllocError>
+/// The report of states that were built from a grammar.
+fn built_listed(heap: Global, grammar: &Grammar, states: &BuiltStates) -> Result<String, AllocError>
+    requires { Builds grammar.now states.now }
     ensures { IfOk result (λ text. (b : List ℕ) → length b ≡ 0 → TableReport (sheet_of grammar.now) b (string_bytes text)) }
 {
-    let states = match BuiltStates::build(grammar) {
-        Ok(states) => states,
-        Err(fault) => {
-            let finding = Finding { fault, row: None };
-            return refused(
-                heap,
-                TableExplanation {
-                    grammar,
-                    sheet: &[],
-                    finding,
-                },
-            );
-        }
-    };
-    let sheet = written(heap, &states)?;
+    let sheet = written(heap, states)?;
     let table = Table::check(grammar, sheet.as_slice()).unwrap();
     let listing = TableText {
         grammar,
         table: &table,
     };
     listed(heap, listing, "built and written", sheet.len())
+}
+
+/// The report of the states that are built from a grammar.
+fn built(heap: Global, grammar: &Grammar) -> Result<String, AllocError>
+    ensures { IfOk result (λ text. (b : List ℕ) → length b ≡ 0 → TableReport (sheet_of grammar.now) b (string_bytes text)) }
+{
+    match BuiltStates::build(grammar) {
+        Ok(states) => built_listed(heap, grammar, &states),
+        Err(fault) => {
+            let finding = Finding { fault, row: None };
+            refused(
+                heap,
+                TableExplanation {
+                    grammar,
+                    sheet: &[],
+                    finding,
+                },
+            )
+        }
+    }
 }
 
 /// What is told of a table sheet for a grammar. Without bytes it is told of the states that are built from the grammar.
@@ -94,7 +100,7 @@ pub fn table_report(heap: Global, grammar: &Grammar, sheet: &[u8]) -> Result<Str
     }
 }
 
-/// What `inspect` prints: the report of a grammar sheet and, where that is not refused, the report of a table sheet for it.
+/// What `inspect_tables` prints: the report of a grammar sheet and, where that is not refused, the report of a table sheet for it.
 pub fn full_report(
     heap: Global,
     grammar_sheet: &[u8],

@@ -29,7 +29,7 @@ impl fmt::Display for ItemLine<'_> {
     fn fmt<W: fmt::Write>(&self, f: &mut fmt::Formatter<W>) -> fmt::Result {
         let item = self.item;
         if self.row.holds(item.rule, item.dot) {
-            write!(f, "  {item}\n")
+            writeln!(f, "  {item}")
         } else {
             Ok(())
         }
@@ -49,7 +49,7 @@ impl fmt::Display for RuleItems<'_> {
     fn fmt<W: fmt::Write>(&self, f: &mut fmt::Formatter<W>) -> fmt::Result {
         let RuleItems { text, rule } = *self;
         let RowText { grammar, row } = text;
-        // A loop of its own, as each list here has: a trait of numbered pieces would want a struct and an impl for each.
+        // Not one function for all lists: it would take a closure, and a public one that does would have to ask that it can be called.
         for dot in 0..=usize::from(grammar.length(rule)) {
             let item = ItemText { grammar, rule, dot };
             write!(f, "{}", ItemLine { row, item })?;
@@ -63,7 +63,6 @@ impl fmt::Display for RowText<'_> {
 
     fn fmt<W: fmt::Write>(&self, f: &mut fmt::Formatter<W>) -> fmt::Result {
         let text = *self;
-        // A loop of its own, as each list here has: a trait of numbered pieces would want a struct and an impl for each.
         for rule in 0..usize::from(text.grammar.rules()) {
             write!(f, "{}", RuleItems { text, rule })?;
         }

@@ -28,14 +28,12 @@ impl fmt::Display for StateText<'_> {
             table,
             state,
         } = *self;
-        match table.row(state) {
-            Some(row) => {
-                let items = RowText { grammar, row: &row };
-                let steps = StepLines(*self);
-                write!(f, "state {state}\n{items}{steps}")
-            }
-            None => Ok(()),
-        }
+        let Some(row) = table.row(state) else {
+            return Ok(());
+        };
+        let items = RowText { grammar, row: &row };
+        let steps = StepLines(*self);
+        write!(f, "state {state}\n{items}{steps}")
     }
 }
 
@@ -48,7 +46,7 @@ impl fmt::Display for StateTexts<'_> {
 
     fn fmt<W: fmt::Write>(&self, f: &mut fmt::Formatter<W>) -> fmt::Result {
         let TableText { grammar, table } = self.0;
-        // A loop of its own, as each list here has: a trait of numbered pieces would want a struct and an impl for each.
+        // Not one function for all lists: it would take a closure, and a public one that does would have to ask that it can be called.
         for state in 0..table.states() {
             write!(
                 f,

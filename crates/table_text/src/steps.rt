@@ -22,13 +22,11 @@ impl fmt::Display for StepLine<'_> {
     ghost output = { λ x. Some (step_line (sheet x.grammar.now) x.target x.symbol) };
 
     fn fmt<W: fmt::Write>(&self, f: &mut fmt::Formatter<W>) -> fmt::Result {
-        match self.target {
-            Some(target) => {
-                let name = Name::of(self.grammar, self.symbol);
-                write!(f, "  by {name} to {target}\n")
-            }
-            None => Ok(()),
-        }
+        let Some(target) = self.target else {
+            return Ok(());
+        };
+        let name = Name::of(self.grammar, self.symbol);
+        writeln!(f, "  by {name} to {target}")
     }
 }
 
@@ -45,7 +43,7 @@ impl fmt::Display for StepLines<'_> {
             table,
             state,
         } = self.0;
-        // A loop of its own, as each list here has: a trait of numbered pieces would want a struct and an impl for each.
+        // Not one function for all lists: it would take a closure, and a public one that does would have to ask that it can be called.
         for symbol in 0..grammar.symbols() {
             let target = table.next(state, symbol);
             write!(

@@ -1,6 +1,9 @@
 -- What the check answers.
-use Rattle.std.proofs.lemmas.Nat.{mul-le}
-use Rattle.std.specs.Prelude.{◌≡◌, ℕ, ◌<◌, ◌≤◌, List, [], ◌∷◌, ◌++◌, length, None, Option, ◌≢◌}
+use mathlib.Core.Bool.{beq}
+use mir.Val.{bool_byte}
+use Rattle.std.proofs.lemmas.Bool.{eqb-true, eqb-false}
+use Rattle.std.proofs.lemmas.Nat.{mul-le, mul-add-lt}
+use Rattle.std.specs.Prelude.{◌≡◌, ◌==◌, ℕ, ◌+◌, ◌*◌, ◌<◌, ◌≤◌, Bool, true, false, List, [], ◌∷◌, ◌++◌, length, None, Option, ◌≢◌}
 use Rattle.std.proofs.Common.{sym, ap, subst, arith}
 use Rattle.std.proofs.lemmas.List.{length_push}
 use Rattle.parsing.specs.Grammar.{Grammar, rule_count}
@@ -11,7 +14,7 @@ use Rattle.rows.specs.declared.row.Row.{Row}
 use Rattle.table_format.specs.ItemSets.{Items, RightSides, FirstRow, NoStep, StepTo, symbols}
 use Rattle.table_format.specs.Tables.{Table}
 use Rattle.table_format.specs.Walks.{Known, state_at, Knows, Walked, begin, passes, refuses, all_right, never_reached}
-use Rattle.table_format.specs.Sheets.{table_of, states_told, symbols_told, rules_told}
+use Rattle.table_format.specs.Sheets.{table_of, marks_at, states_told, symbols_told, rules_told}
 use Rattle.table_format.specs.Breaches.{Checked, by_walk}
 use Rattle.table_format.proofs.Cleaning.{form_clean}
 use Rattle.table_format.proofs.Checks.{merely_passes}
@@ -51,6 +54,26 @@ form_found {g} {b} {f} rs c n = record {
 
 pub walk_found : {g : Grammar} {b : List ℕ} {h : Header} {e : Finding} → RightSides g → Formed g b h → Halts g (table_of b) e → Found g b e
 walk_found {e = e} rs d w = record { refused = refused {f = e.fault} rs (by_walk (form_clean d.form) w.ends); row = w.row }
+
+-- The mark of a sheet that has the form.
+pub mark_low : {g : Grammar} {b : List ℕ} {h : Header} → Formed g b h → (s r : ℕ) → s < h.states → r < rule_count g → (table_of b).mark s r ≤ 1
+unfolding table_of
+mark_low {b = b} f s r l x =
+    f.form.mark_bytes (marks_at (states_told b) (symbols_told b) + (s * rules_told b + r)) (omega arith)
+    (omega (arith, mul-add-lt s (rules_told b) r (states_told b) (omega (arith, f.told.states_are)) (omega (arith, f.form.same_rules))))
+
+-- A mark byte n that is tested for 1, and a mark q that is wanted.
+pub mark_met : (n : ℕ) (p q : Bool) → n ≤ 1 → p ≡ (n == 1) → beq p q ≡ true → n ≡ bool_byte q
+mark_met n true true l e h = eqb-true n 1 (sym e)
+mark_met n true false l e h = cc
+mark_met n false true l e h = cc
+mark_met n false false l e h = let d : n ≢ 1 = eqb-false n 1 (sym e) in omega (arith, d)
+
+pub mark_missed : (n : ℕ) (p q : Bool) → p ≡ (n == 1) → beq p q ≡ false → n ≢ bool_byte q
+mark_missed n true true e h m = cc
+mark_missed n true false e h m = let d : n ≡ 1 = eqb-true n 1 (sym e) in omega (arith, d, m)
+mark_missed n false true e h m = eqb-false n 1 (sym e) m
+mark_missed n false false e h m = cc
 
 -- Along the walk.
 module _ {g : Grammar} {b : List ℕ} {h : Header} (d : Formed g b h) {ks : List Known} {i X r : ℕ} (w : Walked g (table_of b) ks i X r) where

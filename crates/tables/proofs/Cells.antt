@@ -1,16 +1,23 @@
 -- What is read of the bytes of a sheet is read of its table.
-use Rattle.std.proofs.Common.{◌≡◌, ℕ, ◌+◌, ◌*◌, ◌<◌, List, get_or, sym}
-use Rattle.table_format.specs.Sheets.{table_of}
+use Rattle.std.proofs.Common.{◌≡◌, ℕ, ◌+◌, ◌*◌, Bool, true, false, not, eqb, ◌≢◌, List, get_or, MatchOption, sym, refl, ◌∙◌}
+use Rattle.std.specs.Bool.{then_some}
+use Rattle.std.proofs.lemmas.Bool.{eqb-true, eqb-false}
+use Rattle.table_format.specs.Sheets.{marks_at, table_of}
 use Rattle.table_format.proofs.Sheets.{step_of, mark_of}
 use Rattle.tables.specs.declared.header.Header.{Header}
 use Rattle.tables.specs.Heads.{Laid}
 
--- The cell of the state s and the column x, as it is counted: a for s, k for the width of a row, y for x.
-module _ {b : List ℕ} {h : Header} (l : Laid b h) (s : ℕ) (i : s < h.states) (a k y : ℕ) (sa : a ≡ s) where
-  module _ (X : ℕ) (x : X < h.symbols) (ka : k ≡ h.symbols) (ya : y ≡ X) where
-    pub step_read : get_or b (12 + (a * k + y)) 0 ≡ (table_of b).step s X
-    step_read = rw (sa, ka, ya, l.told.symbols_are) (sym (step_of b s X))
+module _ {b : List ℕ} {h : Header} (l : Laid b h) (s x n : ℕ) where
+  pub step_read : n ≡ 12 + (s * h.symbols + x) → get_or b n 0 ≡ (table_of b).step s x
+  step_read e = rw (e, l.told.symbols_are) (sym (step_of b s x))
 
-  module _ (m r : ℕ) (x : r < h.rules) (ma : m ≡ 12 + h.states * h.symbols) (ka : k ≡ h.rules) (ya : y ≡ r) where
-    pub mark_read : get_or b (m + (a * k + y)) 0 ≡ (table_of b).mark s r
-    mark_read = rw (ma, sa, ka, ya, l.told.states_are, l.told.symbols_are, l.told.rules_are) (sym (mark_of b s r))
+  pub mark_read : n ≡ marks_at h.states h.symbols + (s * h.rules + x) → get_or b n 0 ≡ (table_of b).mark s x
+  mark_read e = rw (e, l.told.states_are, l.told.symbols_are, l.told.rules_are) (sym (mark_of b s x))
+
+-- A step byte b, and the step that it tells.
+pub step_told : (b x : ℕ) → b ≡ x → MatchOption (then_some (not (eqb b 255)) b) (x ≡ 255) (λ t. (t ≡ x) × (t ≢ 255))
+step_told b x e = by (eqb b 255) (eqb-true b 255) (eqb-false b 255)
+  where
+    by : (p : Bool) → (p ≡ true → b ≡ 255) → (p ≡ false → b ≢ 255) → MatchOption (then_some (not p) b) (x ≡ 255) (λ t. (t ≡ x) × (t ≢ 255))
+    by true f g = sym e ∙ f refl
+    by false f g = (e, g refl)

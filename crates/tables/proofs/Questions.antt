@@ -1,14 +1,15 @@
 -- What the questions on a table answer.
 use Rattle.tables.specs.Heads.{Laid}
-use Rattle.std.specs.Prelude.{◌≡◌, ℕ, ◌<◌, ◌≤◌, false, ◌&&◌, ◌≢◌, Some, None, ◌==◌, nat_eq, nat_lt, List}
+use Rattle.std.specs.Prelude.{◌≡◌, ℕ, ◌<◌, ◌≤◌, Bool, false, ◌&&◌, ◌≢◌, Some, None, Option, MatchOption, ◌==◌, nat_lt, List}
 use Rattle.std.proofs.Math.Path.{sym, ap}
-use Rattle.std.proofs.Common.{◌∙◌, inl, inr, arith, subst}
+use Rattle.std.proofs.Common.{refl, ◌∙◌, inl, inr, arith, subst}
 use Rattle.std.proofs.lemmas.Bool.{lt-ltb, and_from, le-ltb, and_right}
 use Rattle.parsing.specs.Grammar.{rule_count}
 use Rattle.grammar.specs.Meaning.{meaning}
 use Rattle.table_format.specs.ItemSets.{symbols}
 use Rattle.table_format.specs.Tables.{source_of, answered}
 use Rattle.table_format.specs.Sheets.{table_of}
+use Rattle.table_format.proofs.Sheets.{form_ranged}
 use Rattle.tables.specs.declared.table.Table.{Table}
 use Rattle.tables.specs.Meaning.{grammar_of, bytes, source}
 use Rattle.tables.specs.Held.{held, sourced}
@@ -58,6 +59,14 @@ module _ (t : Table) where
             (lt-ltb ((table_of (bytes t)).step s X) 255 (omega arith))))
             ∙ ap Some (sym e))
 
+      -- The step that its byte tells.
+      pub next_is : (o : Option ℕ) → s < t.header.states → X < t.header.symbols
+          → MatchOption o ((table_of (bytes t)).step s X ≡ 255) (λ b. (b ≡ (table_of (bytes t)).step s X) × (b ≢ 255)) → o ≡ (source t).next s X
+      next_is None h x e = next_none 255 h x (sym e) refl
+      next_is (Some b) h x e =
+          let l = (form_ranged (held t).formed.form).step_in s X (omega (arith, header_states)) (omega (arith, header_symbols)) (λ p. e.1 (e.0 ∙ p)) in
+          next_some b h x e.0 (omega (arith, e.0, l, (form_ranged (held t).formed.form).few_states)) e.1
+
     module _ (r : ℕ) where
       pub done_past_states : t.header.states ≤ s → false ≡ (source t).done s r
       unfolding source source_of
@@ -67,10 +76,10 @@ module _ (t : Table) where
       unfolding source source_of
       done_past_rules h = sym ((sourced t).bounded.done_outside s r (inr (omega (arith, header_rules))))
 
-      pub done_is : (b : ℕ) → s < t.header.states → r < t.header.rules → b ≡ (table_of (bytes t)).mark s r → (b == 1) ≡ (source t).done s r
+      pub done_is : (p : Bool) → s < t.header.states → r < t.header.rules → p ≡ ((table_of (bytes t)).mark s r == 1) → p ≡ (source t).done s r
       unfolding source source_of
-      done_is b h q e =
-          ap (λ n. nat_eq n 1) e
+      done_is p h q e =
+          e
           ∙ sym (ap (λ c. c && (nat_lt r (rule_count (meaning (grammar_of t))) && (table_of (bytes t)).mark s r == 1))
           (lt-ltb s (table_of (bytes t)).states (omega (arith, header_states)))
           ∙ ap (λ c. c && (table_of (bytes t)).mark s r == 1)

@@ -6,7 +6,11 @@
 --   Laid b h          that, and the bytes are as long as it counts
 --   Headed g b h      all of these
 --   Formed g b h      the bytes have the form of a table sheet for the grammar g, laid out by h
-use Rattle.std.specs.Prelude.{◌≡◌, ℕ, ◌≤◌, List, length}
+--   StepsFit M xs n   each of the first n step bytes xs is one of M states, or 255
+--   StrayStep M xs j  the one in place j is neither, and it is the first
+--   MarksFit ys n     each of the first n mark bytes ys is 0 or 1
+--   StrayMark ys j    the one in place j is neither, and it is the first
+use Rattle.std.specs.Prelude.{◌≡◌, ℕ, ◌<◌, ◌≤◌, ◌≢◌, List, length, slice_index}
 use Rattle.parsing.specs.Grammar.{Grammar, rule_count}
 use Rattle.grammar_format.specs.Fields.{number}
 use Rattle.table_format.specs.ItemSets.{symbols}
@@ -42,6 +46,18 @@ pub record Headed (g : Grammar) (b : List ℕ) (h : Header) : Type 0 where
   pub counted : Counted g b
   pub placed : Placed b
   pub told : Told b h
+
+abbrev pub StepsFit : ℕ → List ℕ → ℕ → Type 0
+StepsFit M xs n = (k : ℕ) → k < n → slice_index xs k ≢ 255 → slice_index xs k < M
+
+abbrev pub StrayStep : ℕ → List ℕ → ℕ → Type 0
+StrayStep M xs j = (j < length xs) × (slice_index xs j ≢ 255) × (M ≤ slice_index xs j) × StepsFit M xs j
+
+abbrev pub MarksFit : List ℕ → ℕ → Type 0
+MarksFit ys n = (k : ℕ) → k < n → slice_index ys k ≤ 1
+
+abbrev pub StrayMark : List ℕ → ℕ → Type 0
+StrayMark ys j = (j < length ys) × (1 < slice_index ys j) × MarksFit ys j
 
 pub record Formed (g : Grammar) (b : List ℕ) (h : Header) : Type 0 where
   pub form : Form g b

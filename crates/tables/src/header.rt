@@ -1,7 +1,10 @@
 //! The counts that the header of a table sheet tells.
-ghost use Rattle.std.specs.Prelude.{◌≡◌, ◌+◌, ◌*◌};
+ghost use Rattle.std.specs.Prelude.{◌≡◌};
+
+use table_layout::Layout;
 
 /// How many states, symbols and rules there are.
+// The counts that the sheet tells; the check holds the last two to those of the grammar.
 #[derive(Clone, Copy)]
 pub(crate) struct Header {
     pub(crate) states: u8,
@@ -10,17 +13,14 @@ pub(crate) struct Header {
 }
 
 impl Header {
-    /// The offset of the done marks.
-    pub(crate) fn marks_at(&self) -> usize
-        ensures { result ≡ 12 + self.now.states * self.now.symbols }
+    /// Where the parts of the sheet stand.
+    pub(crate) fn layout(&self) -> Layout
+        ensures { result ≡ record { states = self.now.states; symbols = self.now.symbols; rules = self.now.rules } }
     {
-        12 + usize::from(self.states) * usize::from(self.symbols)
-    }
-
-    /// How many bytes the sheet has.
-    pub(crate) fn sheet_len(&self) -> usize
-        ensures { result ≡ 12 + self.now.states * self.now.symbols + self.now.states * self.now.rules }
-    {
-        self.marks_at() + usize::from(self.states) * usize::from(self.rules)
+        Layout {
+            states: u16::from(self.states),
+            symbols: u16::from(self.symbols),
+            rules: u16::from(self.rules),
+        }
     }
 }

@@ -53,19 +53,12 @@ impl StateSource for Table {
         if state >= claim.header.states || symbol >= claim.header.symbols {
             return None;
         }
-        let next = claim.step(state, symbol);
-        if next == 255 {
-            return None;
-        }
-        Some(next)
+        claim.step(state, symbol)
     }
 
     fn done(&self, state: u8, rule: u8) -> bool {
         let claim = self.claim();
-        if state >= claim.header.states || rule >= claim.header.rules {
-            return false;
-        }
-        claim.done(state, rule) == 1
+        state < claim.header.states && rule < claim.header.rules && claim.done(state, rule)
     }
 }
 
@@ -83,13 +76,12 @@ impl Table {
     }
 
     /// The row of a state; none where there is no such state.
+    #[tactic(auto, unfolding(crate::specs::Meaning::source, table_format::specs::Tables::source_of, crate::specs::Lists::row_in))]
     pub fn row(&self, state: u8) -> Option<Row>
         ensures { RowAt (source self.now) state result }
     {
-        let states = self.states();
-        if state >= states {
-            return None;
-        }
-        Some(self.rows[usize::from(state)])
+        self.rows[..usize::from(self.states())]
+            .get(usize::from(state))
+            .copied()
     }
 }

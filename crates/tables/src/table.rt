@@ -14,7 +14,7 @@ pub struct Table {
     pub(crate) grammar: Grammar,
     pub(crate) sheet: ArrayVec<u8, 32652>,
     pub(crate) header: Header,
-    // A slot for each number of a state: a row is had without a search.
+    // A slot for each state, so that no row is searched for.
     pub(crate) rows: [Row; 255],
     ghost passed: { ∥ Passed (meaning grammar) sheet.items header rows ∥₁ },
 }

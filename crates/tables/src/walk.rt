@@ -16,6 +16,7 @@ use rows::Row;
 use states::TableFault;
 
 impl Claim<'_> {
+    // The known states and the place stay apart: the states grow between two tries.
     /// Tries a symbol of the known state in a place: the state that becomes known by the step, if one does.
     fn try_step(
         &self,
@@ -30,21 +31,17 @@ impl Claim<'_> {
         ensures in_state { TriedIn (listed known.now) place result }
     {
         let Known { state, row } = known.at(place);
-        let byte = self.step(state, symbol);
-        let Some(row) = row.step(self.grammar, usize::from(symbol)) else {
-            if byte == 255 {
-                return Ok(None);
-            }
-            return Err(TableFault::StepWhereNone { state, symbol });
-        };
-        if byte == 255 {
-            return Err(TableFault::StepLacking { state, symbol });
-        }
-        match known.place_of(byte) {
-            Some(target) if known.at(target).row.same(&row) => Ok(None),
-            Some(_) => Err(TableFault::OtherRow { state, symbol }),
-            None if known.knows_row(&row) => Err(TableFault::KnownRow { state, symbol }),
-            None => Ok(Some(Known { state: byte, row })),
+        let wanted = row.step(self.grammar, usize::from(symbol));
+        match (wanted, self.step(state, symbol)) {
+            (None, None) => Ok(None),
+            (None, Some(_)) => Err(TableFault::StepWhereNone { state, symbol }),
+            (Some(_), None) => Err(TableFault::StepLacking { state, symbol }),
+            (Some(row), Some(next)) => match known.place_of(next) {
+                Some(target) if known.at(target).row.same(&row) => Ok(None),
+                Some(_) => Err(TableFault::OtherRow { state, symbol }),
+                None if known.knows_row(&row) => Err(TableFault::KnownRow { state, symbol }),
+                None => Ok(Some(Known { state: next, row })),
+            },
         }
     }
 
@@ -57,8 +54,7 @@ impl Claim<'_> {
         ensures in_state { IfErr result (InState (listed known.now) place) }
     {
         let Known { state, row } = known.at(place);
-        let wanted = row.is_done(self.grammar, usize::from(rule)) as u8;
-        if self.done(state, rule) == wanted {
+        if self.done(state, rule) == row.is_done(self.grammar, usize::from(rule)) {
             Ok(())
         } else {
             Err(TableFault::MarkWrong { state, rule })
@@ -71,6 +67,7 @@ impl Claim<'_> {
     {
         let mut known = KnownStates::begin(Row::first(self.grammar));
         let mut place = 0;
+        // By label: nested loops that a label leaves with the fault are a rule of the project.
         let fault = 'walk: {
             // By place: the known states grow on the way.
             while place < known.len() {

@@ -1,5 +1,5 @@
 -- The lines of a feed, one word after another.
-use Rattle.std.proofs.Common.{◌≡◌, ℕ, ◌<◌, List, [], ◌∷◌, ◌++◌, length, Some, None, Ok, Err, codes, Option, sym, refl, ap, ◌∙◌, arith}
+use Rattle.std.proofs.Common.{◌≡◌, ℕ, List, [], ◌∷◌, ◌++◌, Some, None, Ok, Err, codes, Option, sym, refl, ap, ◌∙◌}
 use Rattle.std.specs.List.{flat_map}
 use Rattle.std.proofs.lemmas.List.{append_assoc}
 use Rattle.grammar.specs.Lines.{refusal_line}
@@ -25,9 +25,6 @@ module _ (text : List ℕ) (c d e : Coming) (so_far : text ++ word_lines c ≡ w
       ∙ ap (λ x. text ++ x) (sym (append_assoc (word_line w) (flat_map word_line d.words) (ending_line d.fault)))
       ∙ ap (λ x. text ++ x) (sym (lines_are c (w ∷ d.words) d.fault k.0 (sym k.1)))
       ∙ so_far
-
-  pub words_fewer : (w : Word) → Handed c (Ok (Some w)) d → length d.words < length c.words
-  words_fewer w h = omega (arith, ap length (handed_word c.words c.fault w d h).0)
 
   pub lines_end : Handed c (Ok None) d → text ++ codes "end\n" ≡ word_lines e
   lines_end h =

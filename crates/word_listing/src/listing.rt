@@ -38,13 +38,11 @@ pub fn list_words<F: WordFeed>(heap: Global, feed: &mut F) -> Result<String, All
     let mut text = String::new(heap);
     loop {
         match feed.next_word() {
-            Ok(next) => {
-                let Some(word) = next else {
-                    return joined(text, "end\n");
-                };
+            Ok(Some(word)) => {
                 let line = line_of(heap, word)?;
                 text = joined(text, line.as_str())?;
             }
+            Ok(None) => return joined(text, "end\n"),
             Err(fault) => {
                 let line = refusal_of(heap, fault.refusal())?;
                 return joined(text, line.as_str());

@@ -39,6 +39,3 @@ hand_word c d w rs e f = subst (λ x. Handed x (Ok (Some w)) d) (sym e) (refl, f
 
 pub hand_fault : (c d : Coming) (g : FeedFault) (rs : List (Result Word FeedFault)) → c ≡ told (Err g ∷ rs) → d ≡ c → Handed c (Err g) d
 hand_fault c d g rs e f = subst (λ x. Handed x (Err g) d) (sym e) (refl, f ∙ e)
-
-pub hand_end : (c d : Coming) → c ≡ told [] → d ≡ c → Handed c (Ok None) d
-hand_end c d e f = subst (λ x. Handed x (Ok None) d) (sym e) (refl, f ∙ e)

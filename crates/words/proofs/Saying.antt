@@ -1,8 +1,7 @@
 -- What a run says.
 use Rattle.std.proofs.Common.{◌≡◌, ℕ, zero, suc, ◌+◌, ◌-◌, ◌<◌, ◌≤◌, Bool, true, false, cond, leb, List, [], ◌∷◌, length, get_or, drop, Some, None, Option, sym, refl, ap, ◌∙◌, inl, inr, arith, MatchResult}
-use Rattle.std.specs.Str.Parse.{digits_value}
 use Rattle.std.proofs.lemmas.Slice.Eq.{bytes_eq-Decides}
-use Rattle.std.proofs.lemmas.List.{length-drop, get_or-drop, take_all}
+use Rattle.std.proofs.lemmas.List.{length-drop, get_or-drop}
 use Rattle.std.proofs.lemmas.Bool.{cases_Bool, leb-true, leb-false}
 use Rattle.grammar_format.specs.Keeping.{spelling_of}
 use Rattle.grammar_format.specs.Sheets.{Sheet}
@@ -70,12 +69,11 @@ module _ (s : Sheet) (some : 1 ≤ s.grammar.terminals) (one_each : length s.spe
   amount_right : (r : Run) (a : Bool) → all_digits r.bytes ≡ true → leb (length r.bytes) 5 ≡ a → MatchResult (amount_said r) (WordOf r) (FaultOf r)
   amount_right r true d e =
       let few = leb-true (length r.bytes) 5 e in
-      let low = value_few r.bytes d (length r.bytes) 5 few in
-      let whole = ap (digits_value 10) (take_all (length r.bytes) r.bytes (omega arith)) in
+      let low = value_few r.bytes 5 d few in
       simp e (record {
         from_is = refl;
         to_is = refl;
-        sound = record { known = omega arith; plain = λ h. absurd (omega arith); small = omega (arith, low, whole) };
+        sound = record { known = omega arith; plain = λ h. absurd (omega arith); small = omega (arith, low) };
         spells = record { amount = λ _. record { digits = d; few = few; value_is = refl }; spelling = λ h. absurd (omega arith) };
       })
   amount_right r false d e = simp e (record { first_is = refl; second_is = refl; blames = (d, leb-false (length r.bytes) 5 e) })

@@ -1,8 +1,8 @@
 -- Byte by byte over a text: how its runs go on.
-use Rattle.std.proofs.Common.{◌≡◌, ℕ, ◌+◌, ◌<◌, ◌≤◌, Bool, true, false, cond, ◌||◌, not, ltb, List, [], ◌∷◌, length, get_or, drop, Some, None, Option, sym, refl, ap, ◌∙◌, inl, inr, arith}
+use Rattle.std.proofs.Common.{◌≡◌, ℕ, ◌+◌, ◌<◌, Bool, true, false, cond, ◌||◌, not, ltb, List, ◌∷◌, length, get_or, drop, Some, None, Option, sym, refl, ap, ◌∙◌, inl, inr, arith}
 use Rattle.std.specs.List.{position, position_or_len, prefix_len}
 use Rattle.std.specs.Option.{unwrap_or}
-use Rattle.std.proofs.lemmas.List.{at_drop_more, at_drop_all, length-take}
+use Rattle.std.proofs.lemmas.List.{at_drop_more, length-take}
 use Rattle.std.proofs.lemmas.List.Recursion.{is_position_or_len}
 use Rattle.std.proofs.lemmas.Bool.{cases_Bool, false≢true, ltb-false}
 use Rattle.std.proofs.lemmas.List.Folds.{length-prefix_len}
@@ -50,11 +50,6 @@ module _ (xs : List ℕ) (i : ℕ) (inside : i < length xs) where
   pub ahead_word : (o : Bool) → o ≡ true → WordByte (get_or xs i 0) → ahead xs i o ≡ ahead xs (i + 1) o
   ahead_word true e k = ahead_within k.no_end
   ahead_word false e k = absurd (false≢true e)
-
--- Behind the last byte.
-pub ahead_all : (xs : List ℕ) (i : ℕ) (o : Bool) → length xs ≤ i → ahead xs i o ≡ []
-ahead_all xs i true h = at_drop_all (λ ys. begun i false (unremarked true ys)) xs i h
-ahead_all xs i false h = at_drop_all (λ ys. begun i false (unremarked false ys)) xs i h
 
 -- How many bytes stand before the first blank or remark.
 by_byte : (b : ℕ) (xs : List ℕ) → length (front (unremarked false (b ∷ xs))) ≡ cond (opens_remark b || is_blank b) 0 (1 + length (front (unremarked false xs)))

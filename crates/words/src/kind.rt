@@ -12,7 +12,9 @@ pub(crate) enum Kind {
     LineFeed,
     /// What opens a remark.
     Hash,
+    /// A digit.
     Digit,
+    /// Any other byte.
     Other,
 }
 

@@ -8,8 +8,8 @@ ghost use Rattle.words.specs.Texts.{all_digits, same_spelling, spelled_terminal}
 use crate::kind::is_digit;
 use grammar::Grammar;
 
+// Not `u8::is_ascii_digit`: that one match on a character tells what a byte is, is a rule of the project.
 /// Whether all bytes are digits.
-// The grammar crate asks this of its spellings by itself: what is a digit in a text may become another thing.
 pub(crate) fn are_digits(bytes: &[u8]) -> bool
     ensures { result ≡ all_digits bytes.now }
 {
@@ -22,19 +22,10 @@ pub(crate) fn amount(digits: &[u8]) -> u32
     requires few { length digits.now ≤ 5 }
     ensures { result ≡ digits_value 10 digits.now }
 {
-    // By hand: the library reads numbers from text, and these are bytes.
-    let mut amount = 0;
-    for digit in digits {
-        amount = 10 * amount + u32::from(digit - b'0');
-    }
-    amount
-}
-
-/// Whether a spelling is these bytes.
-fn is_spelling(spelling: &[u8], bytes: &[u8]) -> bool
-    ensures { result ≡ same_spelling spelling.now bytes.now }
-{
-    spelling == bytes
+    // Not `parse`: the library reads numbers from text, and these are bytes.
+    digits
+        .iter()
+        .fold(0, |amount, digit| 10 * amount + u32::from(digit - b'0'))
 }
 
 /// Whether the terminal is spelled with these bytes.
@@ -43,7 +34,7 @@ fn spells(grammar: &Grammar, terminal: u8, bytes: &[u8]) -> bool
 {
     grammar
         .spelling(usize::from(terminal))
-        .is_some_and(|spelling| is_spelling(spelling, bytes))
+        .is_some_and(|spelling| spelling == bytes)
 }
 
 /// The terminal, other than the amount, whose spelling the bytes are.

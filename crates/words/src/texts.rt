@@ -39,15 +39,13 @@ fn read_run(grammar: &Grammar, text: &[u8], from: usize, to: usize) -> Result<Wo
             to,
         });
     }
-    match terminal_of(grammar, bytes) {
-        Some(terminal) => Ok(Word {
-            terminal,
-            amount: 0,
-            from,
-            to,
-        }),
-        None => Err(FeedFault::UnknownWord { from, to }),
-    }
+    let terminal = terminal_of(grammar, bytes).ok_or(FeedFault::UnknownWord { from, to })?;
+    Ok(Word {
+        terminal,
+        amount: 0,
+        from,
+        to,
+    })
 }
 
 impl<'g, 't> TextFeed<'g, 't> {

@@ -1,19 +1,11 @@
 //! What a feed answers, one call after another.
-use grammar::{Layer, Refusal};
+use grammar::{Grammar, Layer, Refusal};
+use sample_sheets::P;
 use std::process::Abort;
 use std::test::Fail;
 use words::{FeedFault, Word, WordFeed};
 
-/// The sheet of a small grammar. The terminals are 0, the amount, 1, `tea`, and 2, `and`.
-pub static SHEET: [u8; 48] = *b"\
-    \x00\x30\x00\x03\x00\x02\x00\x03\x00\x0c\x00\x27\
-    \x03\x01\x04\xff\xff\xff\xff\xff\xff\
-    \x04\x02\x00\x01\xff\xff\xff\xff\xff\
-    \x04\x03\x04\x02\x04\xff\xff\xff\xff\
-    \x00\
-    \x03tea\
-    \x03and";
-
+// No `Result<Option<Word>, Refused>`: a constant may call no function, so each case would write out the four fields of a `Word`.
 /// The answer to one call.
 #[derive(Clone, Copy, PartialEq, Eq, Debug)]
 pub enum Answer {
@@ -70,19 +62,33 @@ pub fn next<F: WordFeed>(feed: &mut F) -> Answer {
     }
 }
 
-/// The feed of the case gives these answers, and then the last of them again and again.
-pub fn check_feed<F: WordFeed>(
-    rt: &impl Abort,
-    what: &str,
-    feed: &mut F,
-    answers: &[Answer],
-) -> Result<(), Fail> {
-    let mut last = Answer::Strange;
+/// The grammar of P. The terminals are 0, the amount, 1, `tea`, and 2, `and`.
+pub fn grammar() -> Result<Grammar, Fail> {
+    Ok(Grammar::read(&P)?)
+}
+
+/// What a case is about, the bytes of a feed, and its answers, of which the last comes again and again.
+pub type Case<'a> = (&'a str, &'a [u8], &'a [Answer]);
+
+/// The feed of the case gives these answers.
+fn check_feed<F: WordFeed>(rt: &impl Abort, what: &str, feed: &mut F, answers: &[Answer]) {
     for answer in answers {
-        last = *answer;
-        assert_eq!(rt; next(feed), last, "{what}");
+        assert_eq!(rt; next(feed), *answer, "{what}");
     }
-    assert_eq!(rt; next(feed), last, "{what}");
-    assert_eq!(rt; next(feed), last, "{what}");
-    Ok(())
+    let last = answers.last().copied();
+    assert_eq!(rt; Some(next(feed)), last, "{what}");
+    assert_eq!(rt; Some(next(feed)), last, "{what}");
+}
+
+/// Each of these cases has its answers.
+pub fn check_cases<'a, F: WordFeed + Drop, N: Fn(&'a [u8]) -> F>(
+    rt: &impl Abort,
+    cases: &[Case<'a>],
+    feed: N,
+)
+    requires { N.IsAlwaysCallable feed }
+{
+    for (what, bytes, answers) in cases {
+        check_feed(rt, what, &mut feed(bytes), answers);
+    }
 }

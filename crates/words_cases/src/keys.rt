@@ -1,12 +1,8 @@
 //! Key records, and what is answered to them.
-use crate::answers::{Answer, SHEET, check_feed};
-use grammar::Grammar;
+use crate::answers::{Answer, Case, check_cases, grammar};
 use std::process::Abort;
 use std::test::Fail;
 use words::KeyFeed;
-
-/// What a case is about, a record, and the answers to it, of which the last comes again and again.
-type Case = (&'static str, &'static [u8], &'static [Answer]);
 
 const ENDS: [Case; 5] = [
     ("no bytes", &[], &[Answer::End]),
@@ -84,24 +80,10 @@ const KEYS: [Case; 3] = [
     ),
 ];
 
-/// The record of the case has these answers.
-fn check_record(
-    rt: &impl Abort,
-    what: &str,
-    record: &[u8],
-    answers: &[Answer],
-) -> Result<(), Fail> {
-    match Grammar::read(&SHEET) {
-        Ok(grammar) => check_feed(rt, what, &mut KeyFeed::new(&grammar, record), answers),
-        Err(_) => Err(Fail::new(format_args!("no sheet for {what}"))),
-    }
-}
-
 /// Each of these records has its answers.
 fn check_records(rt: &impl Abort, cases: &[Case]) -> Result<(), Fail> {
-    for (what, record, answers) in cases {
-        check_record(rt, what, record, answers)?;
-    }
+    let grammar = grammar()?;
+    check_cases(rt, cases, |record| KeyFeed::new(&grammar, record));
     Ok(())
 }
 

@@ -1,6 +1,5 @@
 //! Long texts and records: their time grows with their length alone.
-use crate::answers::{Answer, SHEET, next};
-use grammar::Grammar;
+use crate::answers::{Answer, grammar, next};
 use std::alloc::{AllocError, Global};
 use std::process::Abort;
 use std::test::Fail;
@@ -23,20 +22,6 @@ fn answer_behind<F: WordFeed>(feed: &mut F, calls: usize) -> Answer {
     next(feed)
 }
 
-/// The text has this answer behind so many others.
-fn check_answer(rt: &impl Abort, text: &[u8], calls: usize, answer: Answer) -> Result<(), Fail> {
-    match Grammar::read(&SHEET) {
-        Ok(grammar) => {
-            assert_eq!(rt;
-                answer_behind(&mut TextFeed::new(&grammar, text), calls),
-                answer
-            );
-            Ok(())
-        },
-        Err(_) => Err(Fail::new("no sheet")),
-    }
-}
-
 /// A text that repeats a piece has this answer behind so many others.
 fn check_text(
     rt: &impl Abort,
@@ -46,19 +31,21 @@ fn check_text(
     calls: usize,
     answer: Answer,
 ) -> Result<(), Fail> {
+    let grammar = grammar()?;
     let text = repeated(heap, piece, times)?;
-    check_answer(rt, text.as_slice(), calls, answer)
+    let mut feed = TextFeed::new(&grammar, text.as_slice());
+    assert_eq!(rt; answer_behind(&mut feed, calls), answer);
+    Ok(())
 }
 
 /// A record of so many amounts, each with a word behind it, ends as it must.
-fn check_keys(rt: &impl Abort, feed: &mut KeyFeed, words: usize) -> Result<(), Fail> {
+fn check_keys(rt: &impl Abort, feed: &mut KeyFeed, words: usize) {
     assert_eq!(rt;
         answer_behind(feed, words),
         Answer::Amount(258, 1_048_572, 1_048_575)
     );
     assert_eq!(rt; next(feed), Answer::Terminal(1, 1_048_575, 1_048_576));
     assert_eq!(rt; next(feed), Answer::End);
-    Ok(())
 }
 
 #[test]
@@ -122,8 +109,7 @@ fn a_megabyte_without_words(rt: HostRuntime) -> Result<(), Fail> {
 #[test]
 fn a_megabyte_of_keys(rt: HostRuntime) -> Result<(), Fail> {
     let record = repeated(rt.alloc(), &[0, 1, 2, 1], 262_144)?;
-    match Grammar::read(&SHEET) {
-        Ok(grammar) => check_keys(&rt, &mut KeyFeed::new(&grammar, record.as_slice()), 524_286),
-        Err(_) => Err(Fail::new("no sheet")),
-    }
+    let grammar = grammar()?;
+    check_keys(&rt, &mut KeyFeed::new(&grammar, record.as_slice()), 524_286);
+    Ok(())
 }

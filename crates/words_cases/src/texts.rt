@@ -1,12 +1,8 @@
 //! Texts, and what is answered to them.
-use crate::answers::{Answer, SHEET, check_feed};
-use grammar::Grammar;
+use crate::answers::{Answer, Case, check_cases, grammar};
 use std::process::Abort;
 use std::test::Fail;
 use words::{TextFeed, Word};
-
-/// What a case is about, a text, and the answers to it, of which the last comes again and again.
-type Case = (&'static str, &'static [u8], &'static [Answer]);
 
 const BLANKS: [Case; 9] = [
     ("no bytes", b"", &[Answer::End]),
@@ -160,19 +156,10 @@ const WORDS: [Case; 10] = [
     ),
 ];
 
-/// The text of the case has these answers.
-fn check_text(rt: &impl Abort, what: &str, text: &[u8], answers: &[Answer]) -> Result<(), Fail> {
-    match Grammar::read(&SHEET) {
-        Ok(grammar) => check_feed(rt, what, &mut TextFeed::new(&grammar, text), answers),
-        Err(_) => Err(Fail::new(format_args!("no sheet for {what}"))),
-    }
-}
-
 /// Each of these texts has its answers.
 fn check_texts(rt: &impl Abort, cases: &[Case]) -> Result<(), Fail> {
-    for (what, text, answers) in cases {
-        check_text(rt, what, text, answers)?;
-    }
+    let grammar = grammar()?;
+    check_cases(rt, cases, |text| TextFeed::new(&grammar, text));
     Ok(())
 }
 

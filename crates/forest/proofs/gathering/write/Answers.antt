@@ -43,8 +43,8 @@ returns-in_err-map_err-2 g c =
     let a = c.new-node_register.result in
     let b = c.put_all_nodes.new.nodes in
     let e = subst (λ (r : Result (Unit {0}) Full). Collected gr says n a b r) (ok_before _ c.put_all_nodes.result c.map_err.result _ c.map_err.ensures.cases c.in_ok-map_err.was) c.put_all_nodes.ensures in
-    let a' = c.new-register.result in
-    let none = c.new-register.ensures.none in
+    let a' = c.new-alternative_register.result in
+    let none = c.new-alternative_register.ensures.none in
     let us = c.records.result.now in
     let (q, k) = err_before _ c.put_all_alternatives.result c.map_err-2.result _ c.map_err-2.ensures.cases c.in_err-map_err-2.was in
     let lacks = subst (λ (r : Result (Unit {0}) Full). Filled by_alternative (OfSome gr says us (length us)) a' c.put_all_alternatives.new.alternatives r) k c.put_all_alternatives.ensures in
@@ -58,7 +58,7 @@ returns-in_err-map_err-2 g c =
     let short = lacks.short (none_climb (held a') none) in
     let exact' : Exactly gr says n us = subst (λ vs. Exactly gr says n vs) (sym c.records.ensures) exact in (
       enough blank_node (MetNode gr says n) (held b) (length c.args.nodes.now) (omega arith) exact.whole,
-      subst (λ t. More (MetRecord gr says n) [] t) (ap length c.new-register.ensures.slots)
+      subst (λ t. More (MetRecord gr says n) [] t) (ap length c.new-alternative_register.ensures.slots)
           (more_from (OfSome gr says us (length us)) (MetRecord gr says n) (held a') [] (room a')
           (λ z h. elim h [ inl x ↦ inl (subst (λ vs. Has vs z) none x) | inr x ↦ inr (of_met gr wf says n us exact' z x) ]) short),
     ))
@@ -73,9 +73,9 @@ returns g c l =
     let a = c.new-node_register.result in
     let e = subst (λ (r : Result (Unit {0}) Full). Collected gr says n a b r) (ok_before _ c.put_all_nodes.result c.map_err.result _ c.map_err.ensures.cases c.in_ok-map_err.was) c.put_all_nodes.ensures in
     let exact : Exactly gr says n (held b) = e.1 c.new-node_register.ensures.none l in
-    let a' = c.new-register.result in
+    let a' = c.new-alternative_register.result in
     let b' = c.put_all_alternatives.new.alternatives in
-    let none = c.new-register.ensures.none in
+    let none = c.new-alternative_register.ensures.none in
     let us = c.records.result.now in
     let grew = subst (λ (r : Result (Unit {0}) Full). Filled by_alternative (OfSome gr says us (length us)) a' b' r) (ok_before _ c.put_all_alternatives.result c.map_err-2.result _ c.map_err-2.ensures.cases c.in_ok-map_err-2.was) c.put_all_alternatives.ensures in
     let exact' : Exactly gr says n us = subst (λ vs. Exactly gr says n vs) (sym c.records.ensures) exact in

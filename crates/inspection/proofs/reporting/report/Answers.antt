@@ -1,8 +1,7 @@
-use Rattle.std.proofs.Common.{◌≡◌, ℕ, true, List, ◌++◌, length, string_bytes, codes}
+use Rattle.std.proofs.Common.{◌≡◌, ℕ, true, List, ◌++◌, length, string_bytes, codes, ap, ◌∙◌}
 use Rattle.std.proofs.lemmas.Result.{IfOk-weaker}
 use Rattle.grammar_format.specs.Sheets.{sheet_bytes}
 use Rattle.grammar.specs.Meaning.{sheet}
-use Rattle.grammar.specs.Refusals.{refusal}
 use Rattle.grammar.specs.Lines.{refusal_line}
 use Rattle.inspection.specs.Listings.{listing}
 use Rattle.inspection.specs.Reports.{Report, closing_line}
@@ -20,5 +19,6 @@ pub returns-in-Err : goal.returns-in-Err
 returns-in-Err c =
     let b = c.args.sheet.now in
     let f = c.in-Err.fault in
-    IfOk-weaker c.refused.result (λ text. (words : List ℕ) × (string_bytes text ≡ refusal_line (refusal f) ++ (codes "\n" ++ words)))
-    (λ text. Report b (string_bytes text)) (λ text p. Report.refused f p.0 c.in-Err.ensures p.1) c.refused.ensures
+    IfOk-weaker c.refusal_report.result (λ text. (words : List ℕ) × (string_bytes text ≡ refusal_line c.refusal.result ++ (codes "\n" ++ words)))
+    (λ text. Report b (string_bytes text))
+    (λ text p. Report.refused f p.0 c.in-Err.ensures (p.1 ∙ ap (λ r. refusal_line r ++ (codes "\n" ++ p.0)) c.refusal.ensures)) c.refusal_report.ensures

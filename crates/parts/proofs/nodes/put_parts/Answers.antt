@@ -1,41 +1,40 @@
-use Rattle.std.proofs.Common.{◌≡◌, ◌+◌, ◌<◌, sym, ap, ◌∙◌, subst, arith}
+use Rattle.std.proofs.Common.{◌+◌, ◌<◌, length, sym, subst, arith}
 use Rattle.std.proofs.lemmas.Result.{err_from_is_err_and}
-use Rattle.parsing.specs.Grammar.{rule_count, lhs}
-use Rattle.grammar.specs.Questions.{left_side}
+use Rattle.parsing.specs.Grammar.{rule_count, rhs}
 use Rattle.register.specs.declared.register.Register.{Register}
-use Rattle.register.specs.Registers.{Grew}
+use Rattle.register.specs.Registers.{Grew, Lacks}
 use Rattle.register.proofs.Growing.{filled_short}
 use Rattle.records.specs.declared.node.Node.{Node}
 use Rattle.records.specs.Orders.{by_node}
-use Rattle.parts.specs.Parts.{PartBelow}
-use Rattle.parts.proofs.Grammars.{left_is}
+use Rattle.parts.specs.Parts.{PartOf, PartBelow}
 use Rattle.parts.proofs.Placing.{rule_taken, rule_passed, rule_short}
 use Rattle.parts.proofs.nodes.put_parts.Goals as goal
-use Rattle.parts.proofs.nodes.put_parts.Goals.{then-left-node+in_ok-put_parts, else-left-node}
+use Rattle.parts.proofs.nodes.put_parts.Goals.{in-Some+in_ok-put_parts, in_default}
 
 pub returns-in_err-put_parts : goal.returns-in_err-put_parts
 returns-in_err-put_parts g c =
     let gr = (g.S.StateSource.meaning c.args.source.now).grammar in
     let says = g.F.Fits.says c.args.spans.now in
+    let y = c.args.node in
     let r = c.loop-rule.rule in
     let rl : r < rule_count gr = (let e = c.rules-rule-end.ensures in omega arith) in
-    let l : lhs gr r ≡ c.args.node.symbol = sym (left_is gr r rl) ∙ ap (left_side gr) (sym c.from.ensures) ∙ sym c.left.ensures ∙ c.if-left-node.true in
+    let (l, s, f, q, i, j) = c.in-Some.ensures in
+    let lacks : Lacks by_node (PartOf gr says r y.from y.to (length (rhs gr r))) c.loop-rule.nodes c.put_parts.new.nodes = rw (s, f, q, i, j) at c.in_err-put_parts.ensures in
     let b = err_from_is_err_and c.from_residual.result c.from_residual.ensures.1 in
-    filled_short by_node (PartBelow gr says c.args.node (rule_count gr)) c.args.nodes.now c.put_parts.new.nodes c.from_residual.result b.0 b.1
-    (rule_short gr says c.args.node c.args.nodes.now c.loop-rule.nodes c.put_parts.new.nodes r (rule_count gr) l rl c.loop-rule.invariant c.in_err-put_parts.ensures)
+    filled_short by_node (PartBelow gr says y (rule_count gr)) c.args.nodes.now c.put_parts.new.nodes c.from_residual.result b.0 b.1
+    (rule_short gr says y c.args.nodes.now c.loop-rule.nodes c.put_parts.new.nodes r (rule_count gr) l rl c.loop-rule.invariant lacks)
 
 pub loop-rule-preserved : goal.loop-rule-preserved
 loop-rule-preserved g c =
     let gr = (g.S.StateSource.meaning c.args.source.now).grammar in
     let says = g.F.Fits.says c.args.spans.now in
+    let y = c.args.node in
     let r = c.loop-rule.rule in
-    let rl : r < rule_count gr = (let e = c.rules-rule-end.ensures in omega arith) in
-    let same : c.left.result ≡ lhs gr r = c.left.ensures ∙ ap (left_side gr) c.from.ensures ∙ left_is gr r rl in
-    let G : Register Node → Type 0 = λ nodes. Grew by_node (PartBelow gr says c.args.node (r + 1)) c.args.nodes.now nodes in
-    elim c.if-left-node.branch [
-      | then-left-node+in_ok-put_parts w ↦ subst G (sym w.nodes-is)
-          (rule_taken gr says c.args.node c.args.nodes.now c.loop-rule.nodes w.put_parts.new.nodes r (sym same ∙ w.if-left-node.true)
-          c.loop-rule.invariant w.in_ok-put_parts.ensures)
-      | else-left-node w ↦ subst G (sym w.nodes-is)
-          (rule_passed gr says c.args.node c.args.nodes.now c.loop-rule.nodes r (λ e. w.if-left-node.false (same ∙ e)) c.loop-rule.invariant)
+    let G : Register Node → Type 0 = λ nodes. Grew by_node (PartBelow gr says y (r + 1)) c.args.nodes.now nodes in
+    elim c.match-of.branch [
+      | in-Some+in_ok-put_parts w ↦
+          let (l, s, f, q, i, j) = w.in-Some.ensures in
+          let grew : Grew by_node (PartOf gr says r y.from y.to (length (rhs gr r))) c.loop-rule.nodes w.put_parts.new.nodes = rw (s, f, q, i, j) at w.in_ok-put_parts.ensures in
+          subst G (sym w.nodes-is) (rule_taken gr says y c.args.nodes.now c.loop-rule.nodes w.put_parts.new.nodes r l c.loop-rule.invariant grew)
+      | in_default w ↦ subst G (sym w.nodes-is) (rule_passed gr says y c.args.nodes.now c.loop-rule.nodes r w.in_default.ensures c.loop-rule.invariant)
     ]

@@ -1,42 +1,42 @@
-use Rattle.std.proofs.Common.{List, sym, ap, ◌∙◌, subst, arith}
+use Rattle.std.proofs.Common.{◌≡◌, ◌<◌, List, true, false, MatchOption, sym, ap, ◌∙◌, subst, eqb-true, arith}
+use Rattle.std.proofs.lemmas.Bool.Decides.{nat_tests}
+use borrow.Author.Tests.{ltb-true}
 use Rattle.register.specs.Registers.{Climbs}
 use Rattle.records.specs.declared.node.Node.{Node}
 use Rattle.records.specs.Orders.{by_node}
 use Rattle.sweep.specs.Finding.{NoneBelow, LastBelow}
-use Rattle.sweep.proofs.Ordering.{last_below, nothing_below, last_some}
+use Rattle.sweep.proofs.Ordering.{last_below, nothing_below, last_some, match_some}
 use Rattle.sweep.proofs.find.last_end.Goals as goal
-use Rattle.sweep.proofs.find.last_end.Goals.{else-node-i-via-then-node-i+else-node-limit, else-node-i-via-else-node-i}
+use Rattle.sweep.proofs.find.last_end.Goals.{then-node-i, else-node-i}
 
-pub returns-then-node-limit : goal.returns-then-node-limit
-returns-then-node-limit c =
+pub returns : goal.returns
+returns c =
     let us = c.records-records.result.now in
     let i = c.args.i in
     let n = c.args.limit in
     let k = c.lower_bound.result in
     let b = c.lower_bound.ensures in
     let x = c.in_ok-node.node.now in
+    let t = c.if-node-i.then_some in
     let (p, q) = last_some us k b.within x (sym c.in_ok-node.ensures.value) in
-    subst (λ (vs : List Node). LastBelow vs i n x.to) c.records-records.ensures
-    (record {
-      before = c.if-node-limit.true;
-      last = λ up z h f s.
-          let l = last_below us i n k b up z h f s (ap (λ (y : Node). y.from) q ∙ c.if-node-i.true) in
-          let e = ap (λ (y : Node). y.to) q in
+    let ends : t ≡ true → (x.from ≡ i) × (x.to < n) = λ e. elim c.if-node-i.branch [
+      | then-node-i w ↦ (w.if-node-i.true, ltb-true x.to n (sym w.then_some-is ∙ e))
+      | else-node-i w ↦ absurd (w.if-node-i.false (eqb-true x.from i (sym w.then_some-is ∙ e)))
+    ] in
+    let other : t ≡ false → x.from ≡ i → x.to < n → ⊥ = λ e f s. elim c.if-node-i.branch [
+      | then-node-i w ↦ (let z = sym w.then_some-is ∙ e in grind (arith, nat_tests))
+      | else-node-i w ↦ w.if-node-i.false f
+    ] in
+    subst (λ (vs : List Node). MatchOption c.then_some.result (Climbs by_node vs → NoneBelow vs i n) (LastBelow vs i n)) c.records-records.ensures
+    (match_some c.then_some.result t x.to (Climbs by_node us → NoneBelow us i n) (LastBelow us i n) c.then_some.ensures
+    (λ e up. nothing_below us i n k b up p
+    (λ f s. let d = ap (λ (y : Node). y.to) q in other e (ap (λ (y : Node). y.from) (sym q) ∙ f) (omega arith)))
+    (λ e.
+    let (f, s) = ends e in
+    record {
+      before = s;
+      last = λ up z h g r.
+          let l = last_below us i n k b up z h g r (ap (λ (y : Node). y.from) q ∙ f) in
+          let d = ap (λ (y : Node). y.to) q in
           omega arith;
-    })
-
-pub returns-else-node-i : goal.returns-else-node-i
-returns-else-node-i c =
-    let us = c.records-records.result.now in
-    let i = c.args.i in
-    let n = c.args.limit in
-    let k = c.lower_bound.result in
-    let b = c.lower_bound.ensures in
-    let x = c.in_ok-node.node.now in
-    let (p, q) = last_some us k b.within x (sym c.in_ok-node.ensures.value) in
-    subst (λ (vs : List Node). Climbs by_node vs → NoneBelow vs i n) c.records-records.ensures
-    (λ up. nothing_below us i n k b up p
-    (λ f s. let e = ap (λ (y : Node). y.to) q in elim c.else-node-i.branch [
-      | else-node-i-via-then-node-i+else-node-limit w ↦ let l = w.if-node-limit.false in omega arith
-      | else-node-i-via-else-node-i w ↦ w.if-node-i.false (ap (λ (y : Node). y.from) (sym q) ∙ f)
-    ]))
+    }))

@@ -1,4 +1,4 @@
-use Rattle.std.proofs.Common.{◌+◌, true, [], length, sym, ap, ◌∙◌, subst, arith, length-set}
+use Rattle.std.proofs.Common.{◌+◌, true, false, [], replicate, sym, refl, ◌∙◌, subst, arith, length-set}
 use Rattle.std.proofs.lemmas.Result.{err_from_is_err_and}
 use Rattle.parsing.specs.Grammar.{rule_count}
 use Rattle.register.specs.Registers.{held, More, Grew}
@@ -14,12 +14,12 @@ pub loop-symbol-init : goal.loop-symbol-init
 loop-symbol-init g c =
     let src = g.S.StateSource.meaning c.args.source.now in
     let wf = (g.met.S.StateSource.lawful c.args.source.now).well_formed in
-    let done = c.none_done-done.result in (
-      ap length c.none_done-done.ensures,
+    let done = replicate 256 false in (
+      refl,
       same_slots c.args.nodes.now,
-      held_none c.args.i c.args.j (held c.args.nodes.now) done c.none_done-done.ensures,
+      held_none c.args.i c.args.j (held c.args.nodes.now) done refl,
       λ n l s. cell_start src.grammar wf (g.F.Fits.says c.args.spans.now) (g.met.F.Fits.forward c.args.spans.now) n
-          c.args.i c.args.j (held c.args.nodes.now) done c.none_done-done.ensures s,
+          c.args.i c.args.j (held c.args.nodes.now) done refl s,
     )
 
 pub returns-in_err-put_parts : goal.returns-in_err-put_parts

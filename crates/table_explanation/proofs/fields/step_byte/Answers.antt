@@ -1,11 +1,11 @@
-use Rattle.std.proofs.Common.{get_or, ap, ◌∙◌}
-use Rattle.table_explanation.proofs.Cells.{step_told, step_none}
+use Rattle.std.proofs.Common.{rules, ◌≡◌, ◌+◌, ◌*◌, get_or, ◌∙◌}
+use Rattle.table_explanation.proofs.Cells.{read_if, step_told, step_none}
 use Rattle.table_explanation.proofs.fields.step_byte.Goals as goal
 
-pub returns-in-Some : goal.returns-in-Some
-returns-in-Some c =
+pub returns : goal.returns
+returns c =
     let b = c.args.sheet.now in
-    c.byte.ensures ∙ ap (λ n. get_or b n 0) c.step_at.ensures ∙ step_told b c.args.state c.in-Some.header c.args.symbol c.in-Some.ensures
-
-pub returns-in-None : goal.returns-in-None
-returns-in-None c = step_none c.args.sheet.now c.args.state c.args.symbol c.in-None.ensures
+    let s = c.args.state in
+    let x = c.args.symbol in
+    read_if c.of.result b c.map_or.result _ _ c.of.ensures c.map_or.ensures
+    (λ h t q. let e : c.map_or.result ≡ get_or b (12 + (s * h.layout.symbols + x)) 0 = search rules in e ∙ step_told b s h x t) (step_none b s x)

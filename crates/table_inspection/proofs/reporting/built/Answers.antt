@@ -1,11 +1,7 @@
-use Rattle.std.proofs.Common.{◌≡◌, ℕ, List, length, string_bytes, codes, MatchResult, sym, ap, ◌∙◌, subst}
+use Rattle.std.proofs.Common.{◌≡◌, ℕ, List, length, string_bytes, ap, ◌∙◌}
 use Rattle.std.proofs.lemmas.Result.{IfOk-weaker}
-use Rattle.grammar.specs.Meaning.{sheet, meaning}
-use Rattle.tables.specs.Faults.{Refused}
-use Rattle.tables.specs.Meaning.{Accepted}
+use Rattle.grammar.specs.Meaning.{sheet}
 use Rattle.table_inspection.specs.Reports.{refusal_text, TableReport}
-use Rattle.table_inspection.proofs.Listed.{text_of, built_report}
-use Rattle.table_inspection.proofs.Writing.{unwraps, not_refused}
 use Rattle.table_inspection.proofs.reporting.built.Goals as goal
 
 pub returns-in-Err : goal.returns-in-Err
@@ -16,22 +12,3 @@ returns-in-Err c =
     IfOk-weaker c.refused.result (λ text. (words : List ℕ) × (string_bytes text ≡ refusal_text f words))
     (λ text. (b : List ℕ) → length b ≡ 0 → TableReport (sheet g) b (string_bytes text))
     (λ text p b none. TableReport.too_many p.0 none many.1 (p.1 ∙ ap (λ e. refusal_text e p.0) many.0)) c.refused.ensures
-
-pub unwrap-table-requires : goal.unwrap-table-requires
-unwrap-table-requires c =
-    let sheet_of = c.in_ok-sheet.ensures in
-    unwraps _ _ c.check.result c.check.ensures (λ f r. not_refused c.args.grammar.now c.in-Ok.states c.as_slice.result.now f c.in-Ok.ensures.built.0
-    (c.as_slice.ensures.value ∙ sheet_of.0) sheet_of.1 r)
-
-pub returns : goal.returns
-returns c =
-    let g = c.args.grammar.now in
-    let d = c.as_slice.result.now in
-    let t = c.unwrap-table.result in
-    let a = subst (λ r. MatchResult r (Accepted g d) (Refused (meaning g) d)) c.unwrap-table.ensures c.check.ensures in
-    let how = codes "built and written" in
-    let size : c.len.result ≡ length d = c.len.ensures ∙ sym c.as_slice.ensures.len in
-    IfOk-weaker c.listed.result (λ text. string_bytes text ≡ text_of g t how c.len.result)
-    (λ text. (b : List ℕ) → length b ≡ 0 → TableReport (sheet g) b (string_bytes text))
-    (λ text p. built_report g c.in-Ok.states d t (string_bytes text) c.in-Ok.ensures.built.0 c.in-Ok.ensures.built.1
-    (c.as_slice.ensures.value ∙ c.in_ok-sheet.ensures.0) a (p ∙ ap (text_of g t how) size)) c.listed.ensures

@@ -3,8 +3,8 @@ use Rattle.word_listing.specs.Lines.{word_lines}
 use Rattle.word_listing.proofs.listing.list_words.Given as goal
 
 -- The lines so far, and those of the words that are coming, are all the lines.
-abbrev pub invariant-loop-next : goal.invariant-loop-next
-invariant-loop-next g l = string_bytes l.text ++ word_lines (g.F.WordFeed.coming l.feed) ≡ word_lines (g.F.WordFeed.coming l.initial.feed)
+abbrev pub invariant-loop-word : goal.invariant-loop-word
+invariant-loop-word g l = string_bytes l.text ++ word_lines (g.F.WordFeed.coming l.feed) ≡ word_lines (g.F.WordFeed.coming l.initial.feed)
 
-abbrev pub decreases-loop-next : goal.decreases-loop-next
-decreases-loop-next g l = length (g.F.WordFeed.coming l.feed).words
+abbrev pub decreases-loop-word : goal.decreases-loop-word
+decreases-loop-word g l = length (g.F.WordFeed.coming l.feed).words

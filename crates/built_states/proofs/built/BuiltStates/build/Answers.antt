@@ -7,11 +7,11 @@ use Rattle.built_states.proofs.built.BuiltStates.build.Goals as goal
 
 pub invariant_of-result : goal.invariant_of-result
 invariant_of-result c =
-    record { stepped = c.in_ok-count.ensures.stepped; built = ∣ finished (meaning c.args.grammar.now) c.in_ok-count.field-0 (right_sides c.args.grammar.now) c.in_ok-count.ensures ∣₁ }
+    record { stepped = c.in_ok-building.ensures.stepped; built = ∣ finished (meaning c.args.grammar.now) c.in_ok-building.building (right_sides c.args.grammar.now) c.in_ok-building.ensures ∣₁ }
 
 pub returns : goal.returns
 returns c =
-    let f = finished (meaning c.args.grammar.now) c.in_ok-count.field-0 (right_sides c.args.grammar.now) c.in_ok-count.ensures in
+    let f = finished (meaning c.args.grammar.now) c.in_ok-building.building (right_sides c.args.grammar.now) c.in_ok-building.ensures in
     record {
       built = (refl, f);
       counted = record { over_grammar = refl; built = f; counted = set_count f.matched; not_many = not_many f };

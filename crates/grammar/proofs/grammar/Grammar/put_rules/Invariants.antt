@@ -5,4 +5,4 @@ use Rattle.grammar.specs.Writing.{Put}
 use Rattle.grammar.proofs.grammar.Grammar.put_rules.Given as goal
 
 abbrev pub invariant-loop-r : goal.invariant-loop-r
-invariant-loop-r l = Put l.initial.room 12 (flat_map rule_block (take l.r l.rule-items)) l.room
+invariant-loop-r l = Put l.initial.room 0 (flat_map rule_block (take l.r l.rule-items)) l.room

@@ -3,8 +3,8 @@ use Rattle.grammar.specs.Holding.{spelling_piece}
 use Rattle.grammar.proofs.Pieces.{size_is, size_few}
 use Rattle.grammar.proofs.grammar.Grammar.size.Goals as goal
 
-pub overflow_add-result-2 : goal.overflow_add-result-2
-overflow_add-result-2 c =
+pub overflow_add-result : goal.overflow_add-result
+overflow_add-result c =
     let e = c.spellings_len.ensures ∙ ap (sum_by (λ w. length (spelling_piece w))) c.as_slice.ensures in
     omega (arith, size_is c.args.self.now, size_few c.args.self.now)
 

@@ -25,23 +25,22 @@ fire-requires g c =
     let left = left_known src c.requires.rule c.from.ensures c.left-x.ensures in
     let size = size_known src c.requires.rule c.from-2.ensures c.length-length.ensures in
     let laid = laid_from t c.args.from c.requires.ahead.since c.requires.ahead.until in
-    subst (λ v. Ends src v 0 (cells_of c.seed_tops.new.here) (content t) (Makes src None t.place (content t))) (sym left) (empty_allowed laid c.requires.rule (size ∙ c.if-length-eq0.true) c.seed_tops.ensures)
+    subst (λ v. Ends src v 0 (cells_of c.tops.new.here) (content t) (Makes src None t.place (content t))) (sym left) (empty_allowed laid c.requires.rule (size ∙ c.if-length-eq0.true) c.tops.ensures)
 
 pub returns-then-length-eq0 : goal.returns-then-length-eq0
 returns-then-length-eq0 g c =
     let src = g.S.StateSource.meaning c.args.over.now.source.now in
     let t = c.args.self.now.table in
-    let v = c.fire.new.table in
+    let v = c.fire.new.self.table in
     let left = left_known src c.requires.rule c.from.ensures c.left-x.ensures in
     let size = size_known src c.requires.rule c.from-2.ensures c.length-length.ensures in
-    let laid = laid_from t c.args.from c.requires.ahead.since c.requires.ahead.until in
-    record {
-      along = c.fire.ensures.along;
-      cases = both c.fire.result c.fire.ensures.cases
-          (λ e. empty_fired laid c.requires.rule (size ∙ c.if-length-eq0.true) c.requires.ahead.before c.fire.ensures.along.grown c.seed_tops.ensures
-          (subst (λ z. Ends src z 0 (cells_of c.seed_tops.new.here) (content t) (λ s b i. Has (content v) s t.place b i)) left e))
-          (λ o. o);
-    }
+    let laid = laid_from t c.args.from c.requires.ahead.since c.requires.ahead.until in (
+      c.fire.ensures.0,
+      both c.fire.result c.fire.ensures.1
+          (λ e. empty_fired laid c.requires.rule (size ∙ c.if-length-eq0.true) c.requires.ahead.before c.fire.ensures.0.grown c.tops.ensures
+          (subst (λ z. Ends src z 0 (cells_of c.tops.new.here) (content t) (λ s b i. Has (content v) s t.place b i)) left e))
+          (λ o. o),
+    )
 
 pub descend-requires : goal.descend-requires
 descend-requires g c =
@@ -52,23 +51,22 @@ descend-requires g c =
     let size = size_known src c.requires.rule c.from-2.ensures c.length-length.ensures in
     let long : length (rhs src.grammar c.args.rule) ≡ suc m = omega (arith, size, c.if-length-eq0.false) in
     let laid = laid_from t c.args.from c.requires.ahead.since c.requires.ahead.until in
-    subst (λ v. Ends src v m (cells_of c.seed_below.new.here) (content t) (Makes src None t.place (content t))) (sym left)
-    (long_allowed laid c.requires.rule m long c.seed_below.ensures)
+    subst (λ v. Ends src v m (cells_of c.below.new.here) (content t) (Makes src None t.place (content t))) (sym left)
+    (long_allowed laid c.requires.rule m long c.below.ensures)
 
 pub returns : goal.returns
 returns g c =
     let src = g.S.StateSource.meaning c.args.over.now.source.now in
     let t = c.args.self.now.table in
-    let v = c.descend.new.table in
+    let v = c.descend.new.self.table in
     let m = c.length-length.result - 1 in
     let left = left_known src c.requires.rule c.from.ensures c.left-x.ensures in
     let size = size_known src c.requires.rule c.from-2.ensures c.length-length.ensures in
     let long : length (rhs src.grammar c.args.rule) ≡ suc m = omega (arith, size, c.if-length-eq0.false) in
-    let laid = laid_from t c.args.from c.requires.ahead.since c.requires.ahead.until in
-    record {
-      along = c.descend.ensures.along;
-      cases = both c.descend.result c.descend.ensures.cases
-          (λ e. long_fired laid c.requires.rule m long c.requires.ahead.fresh c.requires.ahead.before c.descend.ensures.along.grown c.seed_below.ensures
-          (subst (λ z. Ends src z m (cells_of c.seed_below.new.here) (content t) (λ s b i. Has (content v) s t.place b i)) left e))
-          (λ o. o);
-    }
+    let laid = laid_from t c.args.from c.requires.ahead.since c.requires.ahead.until in (
+      c.descend.ensures.0,
+      both c.descend.result c.descend.ensures.1
+          (λ e. long_fired laid c.requires.rule m long c.requires.ahead.fresh c.requires.ahead.before c.descend.ensures.0.grown c.below.ensures
+          (subst (λ z. Ends src z m (cells_of c.below.new.here) (content t) (λ s b i. Has (content v) s t.place b i)) left e))
+          (λ o. o),
+    )

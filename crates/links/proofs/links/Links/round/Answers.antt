@@ -13,16 +13,13 @@ reduce-requires-clause-ahead g c = ahead_more c.loop-rule.invariant.along c.requ
 pub loop-rule-preserved : goal.loop-rule-preserved
 loop-rule-preserved g c =
     let src = g.S.StateSource.meaning c.args.over.now.source.now in
-    let a = c.reduce.ensures.along in
-    one_rule c.loop-rule.invariant a c.in_ok-reduce.ensures.cases
+    let a = c.reduce.ensures.0 in
+    one_rule c.loop-rule.invariant a c.in_ok-reduce.ensures.1
 
 pub returns-in_err-reduce : goal.returns-in_err-reduce
 returns-in_err-reduce g c =
     let src = g.S.StateSource.meaning c.args.over.now.source.now in
-    let a = c.reduce.ensures.along in
+    let a = c.reduce.ensures.0 in
     let b : Along src None c.args.self.now.table c.reduce.new.self.table c.args.over.now.limit = along_more c.loop-rule.invariant.along a in
     let e = err_from_is_err_and c.from_residual.result c.from_residual.ensures.1 in
-    record {
-      along = b;
-      cases = rw e.1 (along_overfull c.loop-rule.invariant.along c.in_err-reduce.ensures.cases);
-    }
+    (b, rw e.1 (along_overfull c.loop-rule.invariant.along c.in_err-reduce.ensures.1))

@@ -5,8 +5,8 @@ use Rattle.links.proofs.table.Table.cut.Goals as goal
 pub invariant_of-self : goal.invariant_of-self
 invariant_of-self c =
     let t = c.args.self.now in
-    let n = c.end_of-count.result in
-    let a = c.end_of-count.ensures in
+    let n = c.end_of-self.result in
+    let a = c.end_of-self.ensures in
     let w = a.within in
     record {
       room = t.room;

@@ -7,7 +7,7 @@ use Rattle.links.proofs.Keeps.{no_shifts, shifting_more, shifting_full, shifting
 use Rattle.links.proofs.table.Table.shift_links.Goals as goal
 
 pub loop-k-init : goal.loop-k-init
-loop-k-init g c = no_shifts (g.S.StateSource.meaning c.args.word.now.over.source.now) c.args.word.now.x c.args.self.now c.args.word.now.over.limit c.start_of-start.result
+loop-k-init g c = no_shifts (g.S.StateSource.meaning c.args.word.now.symbol.over.now.source.now) c.args.word.now.symbol.x c.args.self.now c.args.word.now.symbol.over.now.limit c.start_of-start.result
 
 pub loop-k-preserved : goal.loop-k-preserved
 loop-k-preserved g c =
@@ -16,17 +16,11 @@ loop-k-preserved g c =
 
 pub returns-in_err-put : goal.returns-in_err-put
 returns-in_err-put g c =
-    let src = g.S.StateSource.meaning c.args.word.now.over.source.now in
-    let a : Along src (Some c.args.word.now.x) c.loop-k.self c.put.new.self c.args.word.now.over.limit = record { kept = c.put.ensures.kept; grown = turned_grown c.in_err-put.ensures.cases } in
-    let b : Along src (Some c.args.word.now.x) c.args.self.now c.put.new.self c.args.word.now.over.limit = along_more c.loop-k.invariant.along a in
+    let src = g.S.StateSource.meaning c.args.word.now.symbol.over.now.source.now in
+    let a : Along src (Some c.args.word.now.symbol.x) c.loop-k.self c.put.new.self c.args.word.now.symbol.over.now.limit = record { kept = c.put.ensures.kept; grown = turned_grown c.in_err-put.ensures.cases } in
+    let b : Along src (Some c.args.word.now.symbol.x) c.args.self.now c.put.new.self c.args.word.now.symbol.over.now.limit = along_more c.loop-k.invariant.along a in
     let e = err_from_is_err_and c.from_residual.result c.from_residual.ensures.1 in
-    record {
-      along = b;
-      cases = rw e.1 (shifting_full c.start_of-start.ensures c.start_of-end.ensures c.requires c.args.word.now.terminal c.loop-k.invariant c.loop-k.auto.k c.loop-k-test.true c.put.new.self c.in_err-put.ensures.cases);
-    }
+    (b, rw e.1 (shifting_full c.start_of-start.ensures c.start_of-end.ensures c.requires c.args.word.now.terminal c.loop-k.invariant c.loop-k.auto.k c.loop-k-test.true c.put.new.self c.in_err-put.ensures.cases))
 
 pub returns : goal.returns
-returns g c = record {
-  along = c.loop-k.invariant.along;
-  cases = shifting_all c.start_of-start.ensures c.start_of-end.ensures c.requires c.loop-k-test.false c.loop-k.invariant;
-}
+returns g c = (c.loop-k.invariant.along, shifting_all c.start_of-start.ensures c.start_of-end.ensures c.requires c.loop-k-test.false c.loop-k.invariant)

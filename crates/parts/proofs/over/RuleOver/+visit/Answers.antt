@@ -1,4 +1,4 @@
-use Rattle.std.proofs.Common.{◌≤◌, ◌≡◌, ◌+◌, ◌<◌, true, [], length, get_or, set, sym, ◌∙◌, subst, true≢false, arith}
+use Rattle.std.proofs.Common.{◌≤◌, ◌≡◌, ◌+◌, ◌<◌, Bool, true, [], length, get_or, set, sym, ◌∙◌, subst, arith}
 use Rattle.std.proofs.lemmas.Result.{err_from_is_err_and}
 use Rattle.parsing.specs.Grammar.{rhs}
 use Rattle.register.specs.declared.register.Register.{Register}
@@ -7,11 +7,11 @@ use Rattle.register.proofs.Growing.{Upto, keyed_all, filled_short, grew_as, lack
 use Rattle.records.specs.declared.alternative.Alternative.{Alternative}
 use Rattle.records.specs.Orders.{by_alternative}
 use Rattle.records.proofs.Faith.{alternative_faithful}
+use Rattle.parts.specs.Marks.{goes}
 use Rattle.parts.specs.Parts.{Extends}
 use Rattle.parts.proofs.Visits.{ended, end_only, shorter, longer, no_next}
-use Rattle.parts.proofs.Rows.{here, not_here}
 use Rattle.parts.proofs.over.RuleOver.+visit.Goals as goal
-use Rattle.parts.proofs.over.RuleOver.+visit.Goals.{then-rows-p+then-fits+in_ok-visit, else-rows-p, else-rows-p-via-then-rows-p+else-fits, else-rows-p-via-else-rows-p}
+use Rattle.parts.proofs.over.RuleOver.+visit.Goals.{then-goes+in_ok-visit, else-goes}
 
 pub returns-in_err-_new : goal.returns-in_err-_new
 returns-in_err-_new g t c =
@@ -54,14 +54,15 @@ returns-in_err-visit g t c =
     let e = c.parts.ensures.parts in
     let pm : p < length (rhs gr r) = (let l = c.requires.part in let n = c.if-p-parts.false in omega arith) in
     let long : length c.args.cuts ≡ 8 = omega arith in
-    let x : c.part-x.result ≡ get_or (rhs gr r) p 0 = c.part-x.ensures in
+    let x = c.part-part.ensures in
+    let go : Bool → Type 0 = λ b. goes (says (get_or (rhs gr r) p 0)) (get_or rows (p + 1) []) (get_or ks p 0) k ≡ b in
     let S : Alternative → Type 0 = Extends gr says rows r j p ks in
     let Q : Alternative → Type 0 = Extends gr says rows r j (p + 1) (set ks (p + 1) k) in
     let b = err_from_is_err_and c.from_residual-in_err-visit.result c.from_residual-in_err-visit.ensures.1 in
-    let h : says (get_or (rhs gr r) p 0) (get_or ks p 0) k ≡ true = subst (λ y. says y (get_or ks p 0) k ≡ true) x (sym c.fits.ensures ∙ c.if-fits.true) in
+    let h : go true = rw (x.spans, x.symbol, x.next) at (sym c.goes.ensures ∙ c.if-goes.true) in
     filled_short by_alternative S c.args.alternatives.now c.visit.new.alternatives c.from_residual-in_err-visit.result b.0 b.1
     (keyed_short by_alternative S (λ (z : Alternative). get_or z.cuts (p + 1) 0) Q c.args.alternatives.now c.loop-c.alternatives c.visit.new.alternatives k
-    (λ z w. (shorter gr says rows r j p ks long pm short k (omega arith) (here (get_or rows (p + 1) []) _ k c.from.ensures c.if-rows-p.true) h z w).0)
+    (λ z w. (shorter gr says rows r j p ks long pm short k (omega arith) h z w).0)
     c.loop-c.invariant c.in_err-visit.ensures)
 
 pub loop-c-preserved : goal.loop-c-preserved
@@ -78,32 +79,28 @@ loop-c-preserved g t c =
     let e = c.parts.ensures.parts in
     let pm : p < length (rhs gr r) = (let l = c.requires.part in let n = c.if-p-parts.false in omega arith) in
     let long : length c.args.cuts ≡ 8 = omega arith in
-    let x : c.part-x.result ≡ get_or (rhs gr r) p 0 = c.part-x.ensures in
+    let x = c.part-part.ensures in
+    let go : Bool → Type 0 = λ b. goes (says (get_or (rhs gr r) p 0)) (get_or rows (p + 1) []) (get_or ks p 0) k ≡ b in
     let S : Alternative → Type 0 = Extends gr says rows r j p ks in
     let Q : Alternative → Type 0 = Extends gr says rows r j (p + 1) (set ks (p + 1) k) in
     let G : Register Alternative → Type 0 = λ alternatives.
     Grew by_alternative (Upto by_alternative S (λ (z : Alternative). get_or z.cuts (p + 1) 0) (k + 1)) c.args.alternatives.now alternatives in
-    elim c.if-rows-p.branch [
-      | then-rows-p+then-fits+in_ok-visit w ↦
-          let h : says (get_or (rhs gr r) p 0) (get_or ks p 0) k ≡ true = subst (λ y. says y (get_or ks p 0) k ≡ true) x (sym w.fits.ensures ∙ w.if-fits.true) in
+    elim c.if-goes.branch [
+      | then-goes+in_ok-visit w ↦
+          let h : go true = rw (x.spans, x.symbol, x.next) at (sym c.goes.ensures ∙ w.if-goes.true) in
           subst G (sym w.alternatives-is)
           (keyed_taken by_alternative S (λ (z : Alternative). get_or z.cuts (p + 1) 0) Q c.args.alternatives.now c.loop-c.alternatives w.visit.new.alternatives k
-          (shorter gr says rows r j p ks long pm short k (omega arith) (here (get_or rows (p + 1) []) _ k c.from.ensures w.if-rows-p.true) h)
+          (shorter gr says rows r j p ks long pm short k (omega arith) h)
           (longer gr says rows r j p ks long pm short k)
           c.loop-c.invariant w.in_ok-visit.ensures)
-      | else-rows-p w ↦ subst G (sym w.alternatives-is)
+      | else-goes w ↦ subst G (sym w.alternatives-is)
           (keyed_passed by_alternative S (λ (z : Alternative). get_or z.cuts (p + 1) 0) c.args.alternatives.now c.loop-c.alternatives k
-          (no_next gr says rows r j p ks long pm short k
-          (λ mk f. elim w.else-rows-p.branch [
-            | else-rows-p-via-then-rows-p+else-fits v ↦
-                true≢false (sym (subst (λ y. says y (get_or ks p 0) k ≡ true) (sym x) f) ∙ sym v.fits.ensures ∙ v.if-fits.false)
-            | else-rows-p-via-else-rows-p v ↦ not_here (get_or rows (p + 1) []) _ k c.from.ensures v.if-rows-p.false mk
-          ]))
+          (no_next gr says rows r j p ks long pm short k (rw (x.spans, x.symbol, x.next) at (sym c.goes.ensures ∙ w.if-goes.false)))
           c.loop-c.invariant)
     ]
 
-pub returns-after-rows-p : goal.returns-after-rows-p
-returns-after-rows-p g t c =
+pub returns-after-goes : goal.returns-after-goes
+returns-after-goes g t c =
     let gr = (g.S.StateSource.meaning c.args.self.now.source.now).grammar in
     let says = g.F.Fits.says c.args.self.now.spans.now in
     let r = c.args.self.now.rule in
@@ -116,29 +113,25 @@ returns-after-rows-p g t c =
     let e = c.parts.ensures.parts in
     let pm : p < length (rhs gr r) = (let l = c.requires.part in let n = c.if-p-parts.false in omega arith) in
     let long : length c.args.cuts ≡ 8 = omega arith in
-    let x : c.part-x.result ≡ get_or (rhs gr r) p 0 = c.part-x.ensures in
+    let x = c.part-part.ensures in
+    let go : Bool → Type 0 = λ b. goes (says (get_or (rhs gr r) p 0)) (get_or rows (p + 1) []) (get_or ks p 0) k ≡ b in
     let S : Alternative → Type 0 = Extends gr says rows r j p ks in
     let Q : Alternative → Type 0 = Extends gr says rows r j (p + 1) (set ks (p + 1) k) in
     let G : Register Alternative → Type 0 = λ alternatives.
     Grew by_alternative (Upto by_alternative S (λ (z : Alternative). get_or z.cuts (p + 1) 0) (k + 1)) c.args.alternatives.now alternatives in
-    let turn : G c.if-rows-p.alternatives =
-    elim c.if-rows-p.branch [
-      | then-rows-p+then-fits+in_ok-visit w ↦
-          let h : says (get_or (rhs gr r) p 0) (get_or ks p 0) k ≡ true = subst (λ y. says y (get_or ks p 0) k ≡ true) x (sym w.fits.ensures ∙ w.if-fits.true) in
+    let turn : G c.if-goes.alternatives =
+    elim c.if-goes.branch [
+      | then-goes+in_ok-visit w ↦
+          let h : go true = rw (x.spans, x.symbol, x.next) at (sym c.goes.ensures ∙ w.if-goes.true) in
           subst G (sym w.alternatives-is)
           (keyed_taken by_alternative S (λ (z : Alternative). get_or z.cuts (p + 1) 0) Q c.args.alternatives.now c.loop-c.alternatives w.visit.new.alternatives k
-          (shorter gr says rows r j p ks long pm short k (omega arith) (here (get_or rows (p + 1) []) _ k c.from.ensures w.if-rows-p.true) h)
+          (shorter gr says rows r j p ks long pm short k (omega arith) h)
           (longer gr says rows r j p ks long pm short k)
           c.loop-c.invariant w.in_ok-visit.ensures)
-      | else-rows-p w ↦ subst G (sym w.alternatives-is)
+      | else-goes w ↦ subst G (sym w.alternatives-is)
           (keyed_passed by_alternative S (λ (z : Alternative). get_or z.cuts (p + 1) 0) c.args.alternatives.now c.loop-c.alternatives k
-          (no_next gr says rows r j p ks long pm short k
-          (λ mk f. elim w.else-rows-p.branch [
-            | else-rows-p-via-then-rows-p+else-fits v ↦
-                true≢false (sym (subst (λ y. says y (get_or ks p 0) k ≡ true) (sym x) f) ∙ sym v.fits.ensures ∙ v.if-fits.false)
-            | else-rows-p-via-else-rows-p v ↦ not_here (get_or rows (p + 1) []) _ k c.from.ensures v.if-rows-p.false mk
-          ]))
+          (no_next gr says rows r j p ks long pm short k (rw (x.spans, x.symbol, x.next) at (sym c.goes.ensures ∙ w.if-goes.false)))
           c.loop-c.invariant)
     ] in
-    keyed_all by_alternative S (λ (z : Alternative). get_or z.cuts (p + 1) 0) c.args.alternatives.now c.if-rows-p.alternatives (k + 1)
+    keyed_all by_alternative S (λ (z : Alternative). get_or z.cuts (p + 1) 0) c.args.alternatives.now c.if-goes.alternatives (k + 1)
     (λ z w. let l = w.within (p + 1) (omega arith) (omega arith) in omega arith) turn

@@ -31,9 +31,11 @@ loop-p-preserved g c =
     let p = c.loop-p.p - 1 in
     let l = c.loop-p.invariant.0 in
     let k : c.loop-p.p ≡ p + 1 = omega arith in
-    let x : c.part.result ≡ get_or (rhs gr r) p 0 = c.part.ensures in (
+    let x = c.part.ensures in
+    let begins : Begins (says (get_or (rhs gr r) p 0)) c.args.self.now.i c.args.self.now.j (get_or c.loop-p.rows (p + 1) []) c.begins-row.result =
+    rw (x.spans, x.symbol, x.next, x.from, x.to) at c.begins-row.ensures in (
       omega arith,
       completes_more f forward m c.args.self.now.i c.args.self.now.j p c.loop-p.rows c.begins-row.result (omega arith) short
-          (subst (λ t. Begins (says t) c.args.self.now.i c.args.self.now.j (get_or c.loop-p.rows (p + 1) []) c.begins-row.result) x c.begins-row.ensures)
+          begins
           (subst (λ t. Completes f m c.args.self.now.i c.args.self.now.j c.loop-p.rows t) k c.loop-p.invariant.1),
     )

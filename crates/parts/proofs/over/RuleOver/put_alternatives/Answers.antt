@@ -16,8 +16,8 @@ returns g c =
     let i = c.args.self.now.i in
     let j = c.args.self.now.j in
     let rows = c.completes.result in
-    let ks = c.first_cut.result in
-    let first : get_or ks 0 0 ≡ i = ap (λ t. get_or t 0 0) c.first_cut.ensures in
+    let ks = c.cuts_from.result in
+    let first : get_or ks 0 0 ≡ i = ap (λ t. get_or t 0 0) c.cuts_from.ensures in
     let short : length (rhs gr r) ≤ 7 = (let e = c.parts.ensures.parts in let f = c.parts.ensures.few in omega arith) in
     let e : c.parts.result ≡ length (rhs gr r) = c.parts.ensures.parts in
     let none : length (rhs gr r) ≡ 0 → i ≡ j = λ z. elim c.else-parts-eq0.branch [

@@ -12,7 +12,7 @@ use Rattle.parts.specs.Parts.{Between, PartOf}
 use Rattle.parts.proofs.Rows.{leads_none, leads_more}
 use Rattle.parts.proofs.Placing.{parts_none, part_taken, part_passed, part_short}
 use Rattle.parts.proofs.over.RuleOver.put_parts.Goals as goal
-use Rattle.parts.proofs.over.RuleOver.put_parts.Goals.{then-x-terminals+in_ok-put_between, else-x-terminals}
+use Rattle.parts.proofs.over.RuleOver.put_parts.Goals.{then-part-terminals+in_ok-put_between, else-part-terminals}
 
 pub loop-p-init : goal.loop-p-init
 loop-p-init g c =
@@ -34,14 +34,16 @@ returns-in_err-put_between g c =
     let rows = c.completes-rows.result in
     let e : c.parts-p-end.result ≡ length (rhs gr r) = c.parts-p-end.ensures.parts in
     let pm : p < length (rhs gr r) = omega arith in
-    let x : c.part-x.result ≡ get_or (rhs gr r) p 0 = c.part-x.ensures in
+    let x = c.part-part.ensures in
+    let s = x.symbol in
     let t = c.terminals.ensures in
+    let lacks : Lacks by_node (Between (says (get_or (rhs gr r) p 0)) c.loop-p.before (get_or rows (p + 1) []) (get_or (rhs gr r) p 0) c.args.self.now.i c.args.self.now.j) c.loop-p.nodes c.put_between.new.nodes =
+    rw (x.spans, x.symbol, x.next, x.from, x.to) at c.in_err-put_between.ensures in
     let b = err_from_is_err_and c.from_residual.result c.from_residual.ensures.1 in
     filled_short by_node (PartOf gr says r c.args.self.now.i c.args.self.now.j (length (rhs gr r))) c.args.nodes.now c.put_between.new.nodes c.from_residual.result b.0 b.1
     (part_short gr says forward r c.args.self.now.i c.args.self.now.j p c.loop-p.before rows pm c.loop-p.invariant.0 c.completes-rows.ensures
     c.args.nodes.now c.loop-p.nodes c.put_between.new.nodes (omega arith) c.loop-p.invariant.1
-    (subst (λ y. Lacks by_node (Between (says y) c.loop-p.before (get_or rows (p + 1) []) y c.args.self.now.i c.args.self.now.j) c.loop-p.nodes c.put_between.new.nodes) x
-    c.in_err-put_between.ensures))
+    lacks)
 
 pub loop-p-preserved : goal.loop-p-preserved
 loop-p-preserved g c =
@@ -54,20 +56,22 @@ loop-p-preserved g c =
     let rows = c.completes-rows.result in
     let e : c.parts-p-end.result ≡ m = c.parts-p-end.ensures.parts in
     let pm : p < m = omega arith in
-    let x : c.part-x.result ≡ get_or (rhs gr r) p 0 = c.part-x.ensures in
+    let x = c.part-part.ensures in
+    let s = x.symbol in
     let t = c.terminals.ensures in
+    let ends : Ends (says (get_or (rhs gr r) p 0)) c.args.self.now.i c.args.self.now.j c.loop-p.before (get_or rows (p + 1) []) c.ends-before.result =
+    rw (x.spans, x.symbol, x.next, x.from, x.to) at c.ends-before.ensures in
     let G : Register Node → Type 0 = λ nodes. Grew by_node (PartOf gr says r c.args.self.now.i c.args.self.now.j (p + 1)) c.args.nodes.now nodes in (
       leads_more (part_fits gr says r) (λ p. forward (get_or (rhs gr r) p 0)) m c.args.self.now.i c.args.self.now.j p c.loop-p.before c.ends-before.result rows pm c.completes-rows.ensures
-          (subst (λ y. Ends (says y) c.args.self.now.i c.args.self.now.j c.loop-p.before (get_or rows (p + 1) []) c.ends-before.result) x c.ends-before.ensures)
+          ends
           c.loop-p.invariant.0,
-      elim c.if-x-terminals.branch [
-        | then-x-terminals+in_ok-put_between w ↦ subst G (sym w.nodes-is)
+      elim c.if-part-terminals.branch [
+        | then-part-terminals+in_ok-put_between w ↦ subst G (sym w.nodes-is)
             (part_taken gr says forward r c.args.self.now.i c.args.self.now.j p c.loop-p.before rows pm c.loop-p.invariant.0 c.completes-rows.ensures
-            c.args.nodes.now c.loop-p.nodes w.put_between.new.nodes (let l = w.if-x-terminals.true in omega arith) c.loop-p.invariant.1
-            (subst (λ y. Grew by_node (Between (says y) c.loop-p.before (get_or rows (p + 1) []) y c.args.self.now.i c.args.self.now.j) c.loop-p.nodes w.put_between.new.nodes) x
-            w.in_ok-put_between.ensures))
-        | else-x-terminals w ↦ subst G (sym w.nodes-is)
+            c.args.nodes.now c.loop-p.nodes w.put_between.new.nodes (let l = w.if-part-terminals.true in omega arith) c.loop-p.invariant.1
+            (rw (x.spans, x.symbol, x.next, x.from, x.to) at w.in_ok-put_between.ensures))
+        | else-part-terminals w ↦ subst G (sym w.nodes-is)
             (part_passed gr says forward r c.args.self.now.i c.args.self.now.j p c.loop-p.before rows pm c.loop-p.invariant.0 c.completes-rows.ensures
-            c.args.nodes.now c.loop-p.nodes (let l = w.if-x-terminals.false in omega arith) c.loop-p.invariant.1)
+            c.args.nodes.now c.loop-p.nodes (let l = w.if-part-terminals.false in omega arith) c.loop-p.invariant.1)
       ],
     )

@@ -15,16 +15,16 @@ loop-dot-preserved c =
     let r = c.args.rule in
     let d = c.loop-dot.dot in
     let v = items c.args.self.now in
-    let u = items c.args.moved.now in
+    let u = items c.args.into.now in
     let l : d < length (rhs (meaning k) r) = omega (arith, length_is k r c.requires) in
     elim c.if-holds.branch [
       | then-holds+then-from-symbol w ↦
-          rw w.moved-is
-          (sweep_move (meaning k) v X r u (items c.loop-dot.moved) (items w.add.new.self) d c.loop-dot.invariant (sym w.if-holds.ensures)
+          rw w.into-is
+          (sweep_move (meaning k) v X r u (items c.loop-dot.into) (items w.add.new.self) d c.loop-dot.invariant (sym w.if-holds.ensures)
           (right_next k r c.requires d X l (sym w.if-from-symbol.true ∙ w.from.ensures ∙ w.right.ensures)) w.add.ensures)
       | else-holds w ↦
-          rw w.moved-is
-          (sweep_skip (meaning k) v X r u (items c.loop-dot.moved) d c.loop-dot.invariant
+          rw w.into-is
+          (sweep_skip (meaning k) v X r u (items c.loop-dot.into) d c.loop-dot.invariant
           (elim w.else-holds.branch [
             | else-holds-via-then-holds+else-from-symbol x ↦
                 λ p n. x.if-from-symbol.false (x.from.ensures ∙ x.right.ensures ∙ right_is k r c.requires d l ∙ n.symbol)

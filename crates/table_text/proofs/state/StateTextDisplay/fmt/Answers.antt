@@ -6,8 +6,8 @@ use Rattle.table_text.specs.States.{state_part}
 use Rattle.table_text.proofs.Stating.{state_by, state_is}
 use Rattle.table_text.proofs.state.StateTextDisplay.fmt.Goals as goal
 
-pub returns-in-Some-clause-writes : goal.returns-in-Some-clause-writes
-returns-in-Some-clause-writes g c = λ plain ok.
+pub returns-clause-writes : goal.returns-clause-writes
+returns-clause-writes g c = λ plain ok.
     let x = c.args.self.now in
     let s = sheet x.grammar.now in
     let src = source x.table.now in

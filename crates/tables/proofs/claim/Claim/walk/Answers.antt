@@ -4,9 +4,8 @@ use Rattle.grammar.specs.Meaning.{meaning}
 use Rattle.rows.specs.Rows.{items}
 use Rattle.table_format.proofs.Turns.{at_turn}
 use Rattle.tables.specs.Lists.{listed, known_of}
-use Rattle.tables.proofs.Answering.{begins, stays, grows, room_for, few_known}
+use Rattle.tables.proofs.Answering.{begins, room_for, few_known}
 use Rattle.tables.proofs.claim.Claim.walk.Goals as goal
-use Rattle.tables.proofs.claim.Claim.walk.Goals.{in-Some, in_default}
 
 pub loop-place-init : goal.loop-place-init
 loop-place-init c =
@@ -15,15 +14,6 @@ loop-place-init c =
 pub push-requires : goal.push-requires
 push-requires c =
     room_for c.args.self.now.formed (listed c.loop-symbol.known) (known_of c.in-Some.found) (rw c.in-Some.is at c.in-Ok.ensures.tries)
-
-pub loop-symbol-preserved : goal.loop-symbol-preserved
-loop-symbol-preserved c =
-    elim c.match-found.branch [
-      | in-Some w ↦
-          grows c.loop-symbol.known w.push.new.self c.match-found.known (known_of w.in-Some.found)
-          w.known-is w.push.ensures (rw w.in-Some.is at c.in-Ok.ensures.tries) c.loop-symbol.invariant.1
-      | in_default w ↦ stays c.loop-symbol.known c.match-found.known w.known-is (rw w.in_default.is at c.in-Ok.ensures.tries) c.loop-symbol.invariant.1
-    ]
 
 pub loop-place-smaller : goal.loop-place-smaller
 loop-place-smaller c = omega (arith, few_known c.args.self.now.formed c.loop-symbol.invariant.0, c.loop-symbol.invariant.1)

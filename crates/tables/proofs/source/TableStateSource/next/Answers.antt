@@ -1,6 +1,4 @@
-use Rattle.std.proofs.Common.{ℕ, List, ap, ◌∙◌}
-use Rattle.table_format.specs.Sheets.{table_of}
-use Rattle.tables.proofs.Questions.{next_past_states, next_past_symbols, next_some}
+use Rattle.tables.proofs.Questions.{next_past_states, next_past_symbols, next_is}
 use Rattle.tables.proofs.source.TableStateSource.next.Goals as goal
 use Rattle.tables.proofs.source.TableStateSource.next.Goals.{then-state-claim-via-then-state-claim, then-state-claim-via-else-state-claim+then-symbol-claim}
 
@@ -15,6 +13,6 @@ returns-then-state-claim c =
 
 pub returns : goal.returns
 returns c =
-    next_some c.args.self.now c.args.state c.args.symbol c.step-next.result (rw c.claim-claim.ensures.header at c.if-state-claim.false)
+    next_is c.args.self.now c.args.state c.args.symbol c.step.result (rw c.claim-claim.ensures.header at c.if-state-claim.false)
     (rw c.claim-claim.ensures.header at c.if-symbol-claim.false)
-    (c.step-next.ensures ∙ ap (λ (xs : List ℕ). (table_of xs).step c.args.state c.args.symbol) c.claim-claim.ensures.sheet) c.step-next.type_inv c.if-next.false
+    (rw c.claim-claim.ensures.sheet at c.step.ensures)

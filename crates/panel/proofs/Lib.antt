@@ -1,0 +1,6 @@
+pub mod Printing
+pub mod Passing
+pub mod Answering
+pub mod Gathering
+pub mod Tables
+pub mod Deciding

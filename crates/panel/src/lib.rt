@@ -1,0 +1,14 @@
+//! What a packer's panel shows: a recipe is read by a grammar sheet and a table sheet, and the answer is told in lines.
+#![tactic(auto)]
+
+mod answer;
+mod fault;
+mod gathered;
+mod lines;
+mod once;
+mod reading;
+mod showing;
+mod sources;
+
+pub use once::readings_have_one_outcome;
+pub use showing::{read_keys, read_text};

@@ -1,0 +1,4 @@
+pub mod Calling
+pub mod Forests
+pub mod Passing
+pub mod Verdicts

@@ -1,0 +1,4 @@
+pub mod Holding
+pub mod Readings
+pub mod Refusals
+pub mod Replies
