@@ -81,7 +81,7 @@ fn check_feed<F: WordFeed>(rt: &impl Abort, what: &str, feed: &mut F, answers: &
 }
 
 /// Each of these cases has its answers.
-pub fn check_cases<'a, F: WordFeed + Drop, N: Fn(&'a [u8]) -> F>(
+pub(crate) fn check_cases<'a, F: WordFeed + Drop, N: Fn(&'a [u8]) -> F>(
     rt: &impl Abort,
     cases: &[Case<'a>],
     feed: N,
