@@ -1,5 +1,7 @@
 -- The refusals of grammar sheets.
---   refusal f      the number, the layer and the places of the fault f
+--   of_grammar n p the refusal n of a sheet, at the place p
+--   room_short n   the refusal 31 of a room that is too short, of which n bytes are needed
+--   refusal f      the refusal that the fault f is shown as
 --   FirstFault b f the fault f is the first row of the table that applies to the bytes b, at its lowest place
 --   Refused b f    that, and the bytes are those of no sheet that keeps the rules
 use Rattle.std.specs.Prelude.{ℕ, List, ◌≢◌}
@@ -12,16 +14,22 @@ use Rattle.grammar.specs.declared.fault.GrammarFault.{GrammarFault}
 use Rattle.grammar.specs.declared.fault.GrammarFault.TheVariants.{WholeLength, CountRange, Offset, RuleForm, GoalRule}
 use Rattle.grammar.specs.declared.fault.GrammarFault.TheVariants.{SpellingForm, SpellingRepeated, Unproductive, RoomShort}
 
+abbrev pub of_grammar : ℕ → ℕ → Refusal
+of_grammar n p = record { number = n; layer = Grammar; first = p; second = 0 }
+
+abbrev pub room_short : ℕ → Refusal
+room_short n = record { number = 31; layer = Table; first = n; second = 0 }
+
 abbrev pub refusal : GrammarFault → Refusal
-refusal WholeLength = record { number = 10; layer = Grammar; first = 0; second = 0 }
-refusal CountRange = record { number = 11; layer = Grammar; first = 0; second = 0 }
-refusal Offset = record { number = 12; layer = Grammar; first = 0; second = 0 }
-refusal (RuleForm r) = record { number = 13; layer = Grammar; first = r; second = 0 }
-refusal (GoalRule r) = record { number = 14; layer = Grammar; first = r; second = 0 }
-refusal (SpellingForm t) = record { number = 15; layer = Grammar; first = t; second = 0 }
-refusal (SpellingRepeated t) = record { number = 16; layer = Grammar; first = t; second = 0 }
-refusal (Unproductive X) = record { number = 17; layer = Grammar; first = X; second = 0 }
-refusal (RoomShort n) = record { number = 31; layer = Table; first = n; second = 0 }
+refusal WholeLength = of_grammar 10 0
+refusal CountRange = of_grammar 11 0
+refusal Offset = of_grammar 12 0
+refusal (RuleForm r) = of_grammar 13 r
+refusal (GoalRule r) = of_grammar 14 r
+refusal (SpellingForm t) = of_grammar 15 t
+refusal (SpellingRepeated t) = of_grammar 16 t
+refusal (Unproductive X) = of_grammar 17 X
+refusal (RoomShort n) = room_short n
 
 abbrev pub FirstFault : List ℕ → GrammarFault → Type 0
 FirstFault b f = First b (refusal f).number (refusal f).first

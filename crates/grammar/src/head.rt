@@ -1,7 +1,7 @@
 //! Reading the header of a grammar sheet.
 ghost use Rattle.std.specs.Prelude.{◌≡◌, ◌+◌, ◌≤◌, MatchResult};
 ghost use Rattle.grammar.specs.Heads.{Outside, Headed};
-ghost use Rattle.grammar.specs.Refusals.{FirstFault};
+ghost use Rattle.grammar.specs.Refusals.{FirstFault, of_grammar, refusal};
 
 use crate::fault::GrammarFault;
 use crate::header::{Header, rules_end};
@@ -9,7 +9,7 @@ use sheet_head::read_head;
 
 /// A count, which lies in its range.
 fn count(number: u16, low: u8, high: u8) -> Result<u8, GrammarFault>
-    ensures { MatchResult result (λ n. (n ≡ number) × (low ≤ n) × (n ≤ high)) (λ e. (e ≡ GrammarFault.CountRange) × Outside number low high) }
+    ensures { MatchResult result (λ n. (n ≡ number) × (low ≤ n) × (n ≤ high)) (λ e. (refusal e ≡ of_grammar 11 0) × Outside number low high) }
 {
     match u8::try_from(number) {
         Ok(n) if n >= low && n <= high => Ok(n),

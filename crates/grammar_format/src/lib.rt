@@ -4,22 +4,16 @@
 ghost use Rattle.grammar_format.specs.Statements.{Sufficiency, Necessity, Uniqueness};
 
 /// Bytes to which no row of the refusals applies are those of a sheet that keeps the rules.
-pub fn clean_bytes_are_sheets() -> u8
+pub fn clean_bytes_are_sheets()
     ensures { Sufficiency }
-{
-    0
-}
+{}
 
 /// To the bytes of a sheet that keeps the rules no row applies, and they say that sheet alone.
-pub fn sheets_are_clean_bytes() -> u8
+pub fn sheets_are_clean_bytes()
     ensures { Necessity }
-{
-    0
-}
+{}
 
 /// One refusal comes first.
-pub fn one_refusal_is_first() -> u8
+pub fn one_refusal_is_first()
     ensures { Uniqueness }
-{
-    0
-}
+{}

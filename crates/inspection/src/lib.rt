@@ -11,5 +11,5 @@ mod rule;
 pub use explanation::Explanation;
 pub use listing::{Listing, RuleLine};
 pub use name::Name;
-pub use reporting::{refusal_report, report};
+pub use reporting::{SheetReport, refusal_report, report};
 pub use rule::{RightSymbols, RuleText};

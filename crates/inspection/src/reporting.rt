@@ -3,18 +3,18 @@ ghost use Rattle.std.specs.Prelude.{◌≡◌, ℕ, true, List, ◌++◌, length
 ghost use Rattle.grammar_format.specs.Sheets.{sheet_bytes};
 ghost use Rattle.grammar.specs.Meaning.{sheet as sheet_of};
 ghost use Rattle.grammar.specs.Lines.{refusal_line};
-ghost use Rattle.inspection.specs.Listings.{listing as listing_of};
-ghost use Rattle.inspection.specs.Reports.{Report, verdict_text, closing_line};
+ghost use Rattle.inspection.specs.Reports.{Report, verdict_text, closing_line, report_text, Told};
 
 use crate::explanation::Explanation;
 use crate::listing::Listing;
-use grammar::{Grammar, Refusal};
+use grammar::{Grammar, GrammarFault, Refusal};
 use std::alloc::{AllocError, Global};
 use std::fmt;
 
-/// Whether a grammar, written into a room as long as the sheet, gives the sheet again.
+/// Whether a grammar, written into a room as long as its sheet, gives the sheet.
 fn is_written_back(grammar: &Grammar, room: &mut [u8], sheet: &[u8]) -> bool
-    ensures { length room.old ≡ length sheet.now → Decides result (sheet_bytes (sheet_of grammar.now) ≡ sheet.now) }
+    requires { length room.old ≡ length (sheet_bytes (sheet_of grammar.now)) }
+    ensures { Decides result (sheet_bytes (sheet_of grammar.now) ≡ sheet.now) }
 {
     // Not `*room` or `room[..]`: the check finds the proof for a slice from 0 on only.
     grammar.write(room) == Ok(sheet.len()) && &room[0..] == sheet
@@ -48,16 +48,68 @@ impl fmt::Display for WrittenBack {
     }
 }
 
-/// The report of a sheet that a grammar was read from.
-fn listed(heap: Global, grammar: &Grammar, sheet: &[u8]) -> Result<String, AllocError>
-    ensures { IfOk result (λ text. sheet_bytes (sheet_of grammar.now) ≡ sheet.now → string_bytes text ≡ listing_of (sheet_of grammar.now) ++ closing_line (length sheet.now) true) }
-{
-    let size = sheet.len();
-    let mut room = vec![in heap; 0u8; size]?;
-    let same = is_written_back(grammar, room.as_mut_slice(), sheet);
-    let listing = Listing { grammar };
-    let closing = WrittenBack { size, same };
-    format!(in heap; "{listing}{closing}")
+/// What is told of a sheet: all that it says, or the line of its refusal.
+#[derive(Clone, Copy)]
+pub enum SheetReport {
+    /// The grammar of the sheet; how many bytes it was written back with, and whether they are the sheet.
+    Listed {
+        grammar: Grammar,
+        size: usize,
+        same: bool,
+    },
+    Refused(GrammarFault),
+}
+
+impl SheetReport {
+    /// What is told of a grammar that was read from a sheet.
+    fn listed(grammar: Grammar, sheet: &[u8]) -> SheetReport
+        requires { sheet_bytes (sheet_of grammar) ≡ sheet.now }
+        ensures { result ≡ SheetReport.Listed grammar (length sheet.now) true }
+    {
+        let size = grammar.sheet_len();
+        let mut room = [0; 1108];
+        let same = is_written_back(&grammar, &mut room[..size], sheet);
+        SheetReport::Listed {
+            grammar,
+            size,
+            same,
+        }
+    }
+
+    /// What is told of a sheet.
+    pub fn of(sheet: &[u8]) -> SheetReport
+        ensures { Told sheet.now result }
+    {
+        match Grammar::read(sheet) {
+            Ok(grammar) => SheetReport::listed(grammar, sheet),
+            Err(fault) => SheetReport::Refused(fault),
+        }
+    }
+}
+
+impl fmt::Display for SheetReport {
+    ghost output = { λ report. Some (report_text report) };
+
+    fn fmt<W: fmt::Write>(&self, f: &mut fmt::Formatter<W>) -> fmt::Result {
+        match self {
+            SheetReport::Listed {
+                grammar,
+                size,
+                same,
+            } => {
+                let listing = Listing { grammar };
+                let closing = WrittenBack {
+                    size: *size,
+                    same: *same,
+                };
+                write!(f, "{listing}{closing}")
+            }
+            SheetReport::Refused(fault) => {
+                let refusal = fault.refusal();
+                write!(f, "{refusal}\n")
+            }
+        }
+    }
 }
 
 /// The report of a refusal: its line, and then the words of an explanation.
@@ -72,12 +124,17 @@ pub fn refusal_report<E: fmt::Display>(
     format!(in heap; "{refusal}\n{words}")
 }
 
-/// What `inspect` prints of a sheet.
+/// What `inspect` prints of a sheet: what is told of it, and a refusal with its explanation.
 pub fn report(heap: Global, sheet: &[u8]) -> Result<String, AllocError>
     ensures { IfOk result (λ text. Report sheet.now (string_bytes text)) }
 {
-    match Grammar::read(sheet) {
-        Ok(grammar) => listed(heap, &grammar, sheet),
-        Err(fault) => refusal_report(heap, fault.refusal(), &Explanation { fault, sheet }),
+    let told = SheetReport::of(sheet);
+    match told {
+        SheetReport::Listed { .. } => told.to_string(heap),
+        SheetReport::Refused(fault) => refusal_report(
+            heap,
+            fault.refusal(),
+            &Explanation { fault, sheet },
+        ),
     }
 }

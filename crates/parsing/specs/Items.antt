@@ -6,7 +6,7 @@
 --   In src b r d       the item (r, d) is in the row of the state b
 --   Initial r d        (r, d) is the item (0, 0), the kernel of the first state
 --   Step src b X r d   the item (r, d) is in the kernel of the step of the state b by the symbol X
---   Lawful src         the states of src are the LR(0) states of its grammar
+--   Lawful src         the states of src that steps reach from the first are the LR(0) states of its grammar; there may be others
 use Rattle.std.specs.Prelude.{◌≡◌, ℕ, suc, ◌<◌, Bool, true, ◌↔◌, length, Some, None, Option, slice_index}
 use Rattle.parsing.specs.Grammar.{Grammar, rule_count, lhs, rhs}
 

@@ -5,85 +5,61 @@ ghost use Rattle.parsing.specs.Statements.{Productivity, Soundness, Entering, Co
 ghost use Rattle.parsing.specs.Statements.{Stability, Forest, Leastness, RowsByBits, Witness};
 
 /// Whether a symbol derives any words can be decided.
-pub fn productivity_is_decidable() -> u8
+pub fn productivity_is_decidable()
     ensures { Productivity }
-{
-    0
-}
+{}
 
 /// A link enters its upper state by a symbol that derives the words between its two places.
-pub fn links_are_sound() -> u8
+pub fn links_are_sound()
     ensures { Soundness }
-{
-    0
-}
+{}
 
 /// All steps that enter a state are by the same symbol.
-pub fn states_are_entered_by_one_symbol() -> u8
+pub fn states_are_entered_by_one_symbol()
     ensures { Entering }
-{
-    0
-}
+{}
 
 /// Where a symbol comes next in a live state, each of its derivations makes a link.
-pub fn links_are_complete() -> u8
+pub fn links_are_complete()
     ensures { Completeness }
-{
-    0
-}
+{}
 
 /// The words are a sentence exactly when the step of the first state by the start symbol is linked over all of them.
-pub fn links_judge_sentences() -> u8
+pub fn links_judge_sentences()
     ensures { Judgement }
-{
-    0
-}
+{}
 
 /// The words and a terminal begin a sentence exactly when a live state at their end has a step by it.
-pub fn live_states_show_what_may_follow() -> u8
+pub fn live_states_show_what_may_follow()
     ensures { Viability }
-{
-    0
-}
+{}
 
 /// The words begin a sentence exactly when some state is live at their end.
-pub fn live_states_show_viable_prefixes() -> u8
+pub fn live_states_show_viable_prefixes()
     ensures { ViablePrefix }
-{
-    0
-}
+{}
 
 /// More words change neither links nor live states at the places before them.
-pub fn links_keep_to_their_words() -> u8
+pub fn links_keep_to_their_words()
     ensures { Stability }
-{
-    0
-}
+{}
 
 /// What occurs in some derivation of a sentence is what is reached from its top.
-pub fn forests_are_reached_from_the_top() -> u8
+pub fn forests_are_reached_from_the_top()
     ensures { Forest }
-{
-    0
-}
+{}
 
 /// The links are saturated, and any table of links that is saturated up to a place holds those up to that place.
-pub fn links_are_the_least() -> u8
+pub fn links_are_the_least()
     ensures { Leastness }
-{
-    0
-}
+{}
 
 /// Two rows of 64 bytes are equal exactly when all their bits are.
-pub fn rows_are_told_by_their_bits() -> u8
+pub fn rows_are_told_by_their_bits()
     ensures { RowsByBits }
-{
-    0
-}
+{}
 
 /// Some source of states is lawful, over a well-formed grammar: the other theorems do not speak of nothing.
-pub fn lawful_sources_exist() -> u8
+pub fn lawful_sources_exist()
     ensures { Witness }
-{
-    0
-}
+{}
