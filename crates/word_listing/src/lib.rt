@@ -5,6 +5,6 @@ mod line;
 mod listing;
 mod report;
 
-pub use line::WordLine;
+pub use line::{EndLine, WordLine};
 pub use listing::list_words;
-pub use report::report_words;
+pub use report::{TextReport, report_words};

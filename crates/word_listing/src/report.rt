@@ -1,29 +1,53 @@
 //! The words of a text by a grammar sheet.
-ghost use Rattle.std.specs.Prelude.{◌≡◌, IfOk, string_bytes};
-ghost use Rattle.grammar.specs.Meaning.{sheet as sheet_of};
-ghost use Rattle.words.specs.Texts.{text_coming};
-ghost use Rattle.word_listing.specs.Lines.{word_lines};
-ghost use Rattle.word_listing.specs.Reports.{Report};
+ghost use Rattle.std.specs.Prelude.{IfOk, Some, string_bytes};
+ghost use Rattle.word_listing.specs.Reports.{Report, report_text, Told};
 
-use crate::listing::{list_words, refusal_of};
-use grammar::Grammar;
+use crate::listing::list_words;
+use grammar::{Grammar, GrammarFault};
 use std::alloc::{AllocError, Global};
+use std::fmt;
 use words::TextFeed;
 
-/// The words of a text by a grammar.
-fn listed(heap: Global, grammar: &Grammar, text: &[u8]) -> Result<String, AllocError>
-    ensures { IfOk result (λ out. string_bytes out ≡ word_lines (text_coming (sheet_of grammar.now) 0 text.now)) }
-{
-    let mut feed = TextFeed::new(grammar, text);
-    list_words(heap, &mut feed)
+/// What is told of a text by a sheet: its words, a line for each and one for the end, or the line of the refusal of the sheet.
+#[derive(Clone, Copy)]
+pub enum TextReport<'a> {
+    /// The grammar of the sheet, and the text.
+    Listed { grammar: Grammar, text: &'a [u8] },
+    Refused(GrammarFault),
+}
+
+impl<'a> TextReport<'a> {
+    /// What is told of a text by a sheet.
+    pub fn of(sheet: &[u8], text: &'a [u8]) -> TextReport<'a>
+        ensures { Told sheet.now text.now result }
+    {
+        match Grammar::read(sheet) {
+            Ok(grammar) => TextReport::Listed { grammar, text },
+            Err(fault) => TextReport::Refused(fault),
+        }
+    }
+}
+
+impl fmt::Display for TextReport<'_> {
+    ghost output = { λ report. Some (report_text report) };
+
+    fn fmt<W: fmt::Write>(&self, f: &mut fmt::Formatter<W>) -> fmt::Result {
+        match self {
+            TextReport::Listed { grammar, text } => {
+                let mut feed = TextFeed::new(grammar, text);
+                list_words(&mut feed, f)
+            }
+            TextReport::Refused(fault) => {
+                let refusal = fault.refusal();
+                write!(f, "{refusal}\n")
+            }
+        }
+    }
 }
 
 /// What `show_words` prints: the words of a text by a grammar sheet, or the refusal of the sheet.
 pub fn report_words(heap: Global, sheet: &[u8], text: &[u8]) -> Result<String, AllocError>
     ensures { IfOk result (λ out. Report sheet.now text.now (string_bytes out)) }
 {
-    match Grammar::read(sheet) {
-        Ok(grammar) => listed(heap, &grammar, text),
-        Err(fault) => refusal_of(heap, fault.refusal()),
-    }
+    TextReport::of(sheet, text).to_string(heap)
 }

@@ -2,19 +2,19 @@
 use Rattle.std.proofs.Common.{◌≡◌, ℕ, zero, suc, ◌+◌, ◌<◌, ◌≤◌, Bool, true, false, cond, eqb, ltb, List, [], ◌∷◌, length, IfOk, Result, refl, subst, arith}
 use Rattle.std.specs.List.{AllByRecursion}
 use Rattle.std.proofs.lemmas.Bool.{ltb-true}
+use Rattle.grammar.specs.declared.refusal.Refusal.{Refusal}
 use Rattle.words.specs.Keys.{amount_pressed, key_pressed, presses, key_coming}
 use Rattle.words.specs.Places.{Sound, Orderly}
 use Rattle.words.specs.declared.word.Word.{Word}
-use Rattle.words.specs.declared.fault.FeedFault.{FeedFault}
 use Rattle.words.proofs.Telling.{Row, told_in_order, told_words}
 
 -- One press of some bytes, before other answers that stand behind it.
-amount_row : (n i : ℕ) (xs : List ℕ) (rs : List (Result Word FeedFault)) → n ≡ i + 1 + length xs → Row n (i + 3) rs → Row n i (amount_pressed i xs ∷ rs)
+amount_row : (n i : ℕ) (xs : List ℕ) (rs : List (Result Word Refusal)) → n ≡ i + 1 + length xs → Row n (i + 3) rs → Row n i (amount_pressed i xs ∷ rs)
 amount_row n i [] rs e h = record { behind = omega arith; some = omega arith; within = omega arith }
 amount_row n i (a ∷ []) rs e h = record { behind = omega arith; some = omega arith; within = omega arith }
 amount_row n i (a ∷ (b ∷ xs)) rs e h = (record { behind = omega arith; some = omega arith; within = omega arith }, h)
 
-key_row : (T n i t : ℕ) (a : Bool) (rs : List (Result Word FeedFault)) → ltb t T ≡ a → i + 1 ≤ n → Row n (i + 1) rs → Row n i (key_pressed T i t ∷ rs)
+key_row : (T n i t : ℕ) (a : Bool) (rs : List (Result Word Refusal)) → ltb t T ≡ a → i + 1 ≤ n → Row n (i + 1) rs → Row n i (key_pressed T i t ∷ rs)
 key_row T n i t true rs e l h = simp e (record { behind = omega arith; some = omega arith; within = omega arith }, h)
 key_row T n i t false rs e l h = simp e (record { behind = omega arith; some = omega arith; within = omega arith })
 
@@ -33,7 +33,7 @@ presses_row T i zero (b ∷ xs) n j e f =
     (presses_row T (i + 1) 0 xs n (i + 1) (omega arith) (omega arith)))
 
 -- Every word is sound.
-abbrev Right : ℕ → Result Word FeedFault → Type 0
+abbrev Right : ℕ → Result Word Refusal → Type 0
 Right T r = IfOk r (Sound T)
 
 amount_right : (T i : ℕ) (xs : List ℕ) → 1 ≤ T → AllByRecursion (λ b. b < 256) xs → Right T (amount_pressed i xs)

@@ -8,6 +8,7 @@ pub mod Texting
 pub mod Pressing
 pub mod Telling
 pub mod KeyOrder
+pub mod Keying
 pub mod Standing
 pub mod Saying
 pub mod TextOrder

@@ -2,20 +2,20 @@
 use Rattle.std.proofs.Common.{◌≡◌, ℕ, ◌+◌, ◌-◌, ◌*◌, ◌<◌, ◌≤◌, Bool, true, false, cond, eqb, List, [], ◌∷◌, length, take, drop, Some, Ok, Err, Result, sym, refl, ap, ◌∙◌, subst, arith}
 use Rattle.std.proofs.lemmas.List.{drop-drop, take_rest}
 use Rattle.std.proofs.lemmas.Bool.{lt-ltb}
+use Rattle.grammar.specs.declared.refusal.Refusal.{Refusal}
 use Rattle.words.specs.Feeds.{told, Handed}
 use Rattle.words.specs.Keys.{key_pressed, presses, key_coming}
 use Rattle.words.specs.Presses.{amount_of, press_of}
+use Rattle.words.specs.Refusals.{of_feed}
 use Rattle.words.specs.declared.press.Press.{Press}
 use Rattle.words.specs.declared.press.Press.TheVariants.{Amount, Cut, End, Key}
 use Rattle.words.specs.declared.word.Word.{Word}
-use Rattle.words.specs.declared.fault.FeedFault.{FeedFault}
-use Rattle.words.specs.declared.fault.FeedFault.TheVariants.{CutAmount}
 use Rattle.words.proofs.Handing.{hand_word}
 
 -- What a press says of the record that begins with it.
 abbrev pub Pressed : ℕ → ℕ → List ℕ → Press → Type 0
 Pressed T i xs (Amount h l) = (3 ≤ length xs) × (presses T i 0 xs ≡ Ok (record { terminal = 0; amount = 256 * h + l; from = i; to = i + 3 }) ∷ presses T (i + 3) 0 (drop 3 xs))
-Pressed T i xs Cut = (rs : List (Result Word FeedFault)) × (presses T i 0 xs ≡ Err (CutAmount i (i + length xs)) ∷ rs)
+Pressed T i xs Cut = (rs : List (Result Word Refusal)) × (presses T i 0 xs ≡ Err (of_feed 54 i (i + length xs)) ∷ rs)
 Pressed T i xs End = presses T i 0 xs ≡ []
 Pressed T i xs (Key t) = (1 ≤ length xs) × (presses T i 0 xs ≡ key_pressed T i t ∷ presses T (i + 1) 0 (drop 1 xs))
 

@@ -5,13 +5,13 @@ use Rattle.std.proofs.lemmas.List.{length-drop, get_or-drop}
 use Rattle.std.proofs.lemmas.Bool.{cases_Bool, leb-true, leb-false}
 use Rattle.grammar_format.specs.Keeping.{spelling_of}
 use Rattle.grammar_format.specs.Sheets.{Sheet}
-use Rattle.words.specs.Faithful.{Spells, Unspelled, Blames}
+use Rattle.grammar.specs.declared.refusal.Refusal.{Refusal}
+use Rattle.words.specs.Faithful.{Spells, Unspelled}
 use Rattle.words.specs.Places.{Sound}
-use Rattle.words.specs.Refusals.{refusal}
+use Rattle.words.specs.Refusals.{of_feed}
 use Rattle.words.specs.Runs.{Run, run_end}
 use Rattle.words.specs.Texts.{all_digits, same_spelling, spelled_from, spelled_terminal, amount_said, spelling_said, said}
 use Rattle.words.specs.declared.word.Word.{Word}
-use Rattle.words.specs.declared.fault.FeedFault.{FeedFault}
 use Rattle.words.proofs.Amounts.{value_few}
 
 -- The terminal that is found is spelled so.
@@ -54,17 +54,16 @@ module _ (s : Sheet) (some : 1 ≤ s.grammar.terminals) (one_each : length s.spe
       let m : 1 + (t - 1) ≡ t = omega arith in
       spelled_none 1 (drop 1 s.spellings) w e (t - 1) (omega (arith, length-drop 1 s.spellings)) (get_or-drop 1 s.spellings (t - 1) [] ∙ ap (λ n. get_or s.spellings n []) m ∙ f)
 
-  -- A word that the run r says, and a fault.
+  -- A word that the run r says, and a refusal.
   pub record WordOf (r : Run) (w : Word) : Type 0 where
     pub from_is : w.from ≡ r.from
     pub to_is : w.to ≡ run_end r
     pub sound : Sound s.grammar.terminals w
     pub spells : Spells s w r.bytes
 
-  pub record FaultOf (r : Run) (f : FeedFault) : Type 0 where
-    pub first_is : (refusal f).first ≡ r.from
-    pub second_is : (refusal f).second ≡ run_end r
-    pub blames : Blames s f r.bytes
+  pub data FaultOf (r : Run) (x : Refusal) : Type 0 where
+    unspelled : x ≡ of_feed 51 r.from (run_end r) → all_digits r.bytes ≡ false → Unspelled s r.bytes → FaultOf r x
+    too_long : x ≡ of_feed 52 r.from (run_end r) → all_digits r.bytes ≡ true → 5 < length r.bytes → FaultOf r x
 
   amount_right : (r : Run) (a : Bool) → all_digits r.bytes ≡ true → leb (length r.bytes) 5 ≡ a → MatchResult (amount_said r) (WordOf r) (FaultOf r)
   amount_right r true d e =
@@ -76,10 +75,10 @@ module _ (s : Sheet) (some : 1 ≤ s.grammar.terminals) (one_each : length s.spe
         sound = record { known = omega arith; plain = λ h. absurd (omega arith); small = omega (arith, low) };
         spells = record { amount = λ _. record { digits = d; few = few; value_is = refl }; spelling = λ h. absurd (omega arith) };
       })
-  amount_right r false d e = simp e (record { first_is = refl; second_is = refl; blames = (d, leb-false (length r.bytes) 5 e) })
+  amount_right r false d e = simp e (too_long refl d (leb-false (length r.bytes) 5 e))
 
   spelling_right : (r : Run) (o : Option ℕ) → all_digits r.bytes ≡ false → spelled_terminal s r.bytes ≡ o → MatchResult (spelling_said r o) (WordOf r) (FaultOf r)
-  spelling_right r None d e = record { first_is = refl; second_is = refl; blames = (d, terminal_none r.bytes e) }
+  spelling_right r None d e = unspelled refl d (terminal_none r.bytes e)
   spelling_right r (Some t) d e =
       let k = terminal_some r.bytes t e in
       record {

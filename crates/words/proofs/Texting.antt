@@ -2,6 +2,7 @@
 use Rattle.std.proofs.Common.{◌≡◌, ℕ, true, List, ◌∷◌, map, drop, is_err, IsErrAnd, Some, Ok, Err, Result, sym, refl, ap, ◌∙◌, arith}
 use Rattle.grammar_format.specs.Sheets.{Sheet}
 use Rattle.words.specs.Feeds.{told, Handed}
+use Rattle.words.specs.Refusals.{refusal}
 use Rattle.words.specs.Runs.{Run, runs}
 use Rattle.words.specs.Texts.{said, text_coming}
 use Rattle.words.specs.declared.word.Word.{Word}
@@ -24,7 +25,7 @@ module _ (s : Sheet) (xs : List ℕ) (p i : ℕ) (same : runs i (drop i xs) ≡ 
         hand_word (text_coming s p (drop p xs)) (text_coming s j (drop j xs)) w (map (said s) (runs j (drop j xs)))
         (answers ∙ ap (λ x. told (x ∷ map (said s) (runs j (drop j xs)))) e) refl
 
-    pub text_fault : (f : FeedFault) → said s r ≡ Err f → Handed (text_coming s p (drop p xs)) (Err f) (text_coming s i (drop i xs))
+    pub text_fault : (f : FeedFault) → said s r ≡ Err (refusal f) → Handed (text_coming s p (drop p xs)) (Err f) (text_coming s i (drop i xs))
     text_fault f e =
         hand_fault (text_coming s p (drop p xs)) (text_coming s i (drop i xs)) f (map (said s) (runs j (drop j xs)))
         (answers ∙ ap (λ x. told (x ∷ map (said s) (runs j (drop j xs)))) e)

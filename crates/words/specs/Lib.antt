@@ -6,6 +6,7 @@ pub mod Runs
 pub mod Texts
 pub mod Keys
 pub mod Presses
+pub mod Pressed
 pub mod Meanings
 pub mod Places
 pub mod Faithful

@@ -4,6 +4,7 @@ ghost use Rattle.grammar.specs.Meaning.{meaning};
 ghost use Rattle.words.specs.Keys.{key_coming};
 ghost use Rattle.words.specs.Meanings.{key_feed_coming};
 ghost use Rattle.words.specs.Places.{Orderly};
+ghost use Rattle.words.specs.Pressed.{Recorded};
 
 use crate::fault::FeedFault;
 use crate::feed::WordFeed;
@@ -16,6 +17,7 @@ impl<'a> KeyFeed<'a> {
     /// The feed of all words of a record, by the terminals of a grammar.
     pub fn new(grammar: &Grammar, keys: &'a [u8]) -> KeyFeed<'a>
         ensures coming { key_feed_coming result ≡ key_coming (meaning grammar.now).terminals 0 keys.now }
+        ensures recorded { Recorded (meaning grammar.now).terminals keys.now (key_feed_coming result) }
         ensures orderly { Orderly (meaning grammar.now).terminals (length keys.now) (key_feed_coming result) }
     {
         KeyFeed {

@@ -8,7 +8,7 @@ ghost use Rattle.words.specs.Texts.{all_digits, same_spelling, spelled_terminal}
 use crate::kind::is_digit;
 use grammar::Grammar;
 
-// Not `u8::is_ascii_digit`: that one match on a character tells what a byte is, is a rule of the project.
+// Not `u8::is_ascii_digit`: one match on a character tells what a byte is.
 /// Whether all bytes are digits.
 pub(crate) fn are_digits(bytes: &[u8]) -> bool
     ensures { result ≡ all_digits bytes.now }

@@ -2,8 +2,6 @@
 ghost use Rattle.words.specs.Stretches.{Splitting};
 
 /// The runs of a text are exactly its unbroken rows of bytes that are no blanks and stand in no remark.
-pub fn runs_are_stretches() -> u8
+pub fn runs_are_stretches()
     ensures { Splitting }
-{
-    0
-}
+{}

@@ -5,6 +5,7 @@ ghost use Rattle.words.specs.Faithful.{Faithful};
 ghost use Rattle.words.specs.Texts.{said, text_coming};
 ghost use Rattle.words.specs.Meanings.{text_feed_coming};
 ghost use Rattle.words.specs.Places.{part, Orderly};
+ghost use Rattle.words.specs.Refusals.{shown};
 
 use crate::fault::FeedFault;
 use crate::feed::WordFeed;
@@ -25,7 +26,7 @@ pub struct TextFeed<'g, 't> {
 fn read_run(grammar: &Grammar, text: &[u8], from: usize, to: usize) -> Result<Word, FeedFault>
     requires nonempty { from < to }
     requires within { to ≤ length text.now }
-    ensures { result ≡ said (sheet grammar.now) (record { from = from; bytes = part text.now from to }) }
+    ensures { shown result ≡ said (sheet grammar.now) (record { from = from; bytes = part text.now from to }) }
 {
     let bytes = &text[from..to];
     if are_digits(bytes) {

@@ -71,7 +71,12 @@ pub fn grammar() -> Result<Grammar, Fail> {
 pub type Case<'a> = (&'a str, &'a [u8], &'a [Answer]);
 
 /// The feed of the case gives these answers.
-fn check_feed<F: WordFeed>(rt: &impl Abort, what: &str, feed: &mut F, answers: &[Answer]) {
+pub(crate) fn check_feed<F: WordFeed>(
+    rt: &impl Abort,
+    what: &str,
+    feed: &mut F,
+    answers: &[Answer],
+) {
     for answer in answers {
         assert_eq!(rt; next(feed), *answer, "{what}");
     }

@@ -8,4 +8,6 @@ mod keys;
 #[cfg(test)]
 mod long;
 #[cfg(test)]
+mod mixed;
+#[cfg(test)]
 mod texts;

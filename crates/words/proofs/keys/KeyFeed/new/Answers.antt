@@ -4,8 +4,16 @@ use Rattle.grammar.specs.Meaning.{meaning}
 use Rattle.grammar.proofs.Held.{held}
 use Rattle.words.specs.Keys.{key_coming}
 use Rattle.words.specs.Places.{Orderly}
+use Rattle.words.specs.Pressed.{Recorded}
 use Rattle.words.proofs.KeyOrder.{keys_orderly}
+use Rattle.words.proofs.Keying.{recorded}
 use Rattle.words.proofs.keys.KeyFeed.new.Goals as goal
+
+pub returns-clause-recorded : goal.returns-clause-recorded
+returns-clause-recorded c =
+    let n = (meaning c.args.grammar.now).terminals in
+    let xs = c.args.keys.now in
+    subst (λ T. Recorded n xs (key_coming T 0 xs)) (sym c.terminals.ensures) (recorded n xs)
 
 pub returns-clause-orderly : goal.returns-clause-orderly
 returns-clause-orderly c =
