@@ -1,3 +1,4 @@
 pub mod Growing
 pub mod Answering
 pub mod Writing
+pub mod OneWay

@@ -6,7 +6,7 @@
 --   known_rows n ws        the states below n as the walk knows them: each in the place of its number
 --   Built g n ws ss        the n states with these rows and steps match the LR(0) item sets of g, and the walk meets them in their order
 --   Many g                 the grammar g has more than 255 LR(0) item sets
---   TooMany g e            the refusal e is of too many states, and g has that many
+--   TooMany g e            the fault e is refused as 30, and g has that many
 use Rattle.std.specs.Prelude.{◌≡◌, ℕ, ◌<◌, ◌≤◌, List, [], Some, None, Option, slice_index_or}
 use Rattle.std.specs.Option.{unwrap_or}
 use Rattle.parsing.specs.Grammar.{Grammar}
@@ -16,8 +16,8 @@ use Rattle.table_format.specs.Tables.{Table, Matches, wanted_mark}
 use Rattle.table_format.specs.Walks.{Known, Walked}
 use Rattle.rows.specs.declared.row.Row.{Row}
 use Rattle.rows.specs.Rows.{items}
+use Rattle.states.specs.Refusals.{of_table, refusal}
 use Rattle.states.specs.declared.fault.TableFault.{TableFault}
-use Rattle.states.specs.declared.fault.TableFault.TheVariants.{TooManyStates}
 
 abbrev pub row_items : List Row → ℕ → Items
 row_items ws k = items (slice_index_or ws k (record { items = [] }))
@@ -53,4 +53,4 @@ abbrev pub Many : Grammar → Type 0
 Many g = ∥ ((f : ℕ → Items) × ManyRows g f) ∥₁
 
 abbrev pub TooMany : Grammar → TableFault → Type 0
-TooMany g e = (e ≡ TooManyStates) × Many g
+TooMany g e = (refusal e ≡ of_table 30 0 0) × Many g

@@ -20,7 +20,7 @@ source b =
       states = b.building.count;
       first = 0;
       next = (source_of (meaning b.grammar) (table b) (row_items b.building.rows)).next;
-      has = row_items b.building.rows;
+      has = (source_of (meaning b.grammar) (table b) (row_items b.building.rows)).has;
       done = (source_of (meaning b.grammar) (table b) (row_items b.building.rows)).done;
     }
 

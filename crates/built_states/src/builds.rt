@@ -2,8 +2,7 @@
 ghost use Rattle.std.specs.Prelude.{◌≡◌, ℕ, ◌+◌, ◌<◌, ◌≤◌, MatchBool, MatchResult, ◌≢◌};
 ghost use Rattle.grammar.specs.Meaning.{meaning};
 ghost use Rattle.table_format.specs.ItemSets.{symbols as total};
-ghost use Rattle.states.specs.declared.fault.TableFault.TheVariants.{TooManyStates};
-ghost use Rattle.built_states.specs.Built.{row_items, Built, TooMany};
+ghost use Rattle.built_states.specs.Built.{row_items, TooMany};
 ghost use Rattle.built_states.specs.Building.{CompletedAt, Come};
 ghost use Rattle.built_states.specs.Meaning.{Builds};
 
@@ -39,7 +38,7 @@ impl Building {
             .unwrap_or(slot)
     }
 
-    // In the table, and not by `Row::step`: it is a rule of the project that one row is lent and completed among the others.
+    // In the table, and not by `Row::step`: a form that is laid down (docs/DECISIONS.md).
     /// Completes a kernel in the place `slot` of the table, among the other rows, which keep their bytes.
     fn complete_at(&mut self, grammar: &Grammar, slot: usize, kernel: Row)
         requires { slot < 256 }
@@ -104,8 +103,7 @@ impl Building {
 impl BuiltStates {
     /// The states of the grammar, unless there are more than 255.
     pub fn build(grammar: &Grammar) -> Result<BuiltStates, TableFault>
-        ensures built { MatchResult result (λ b. (b.grammar ≡ grammar.now) × Built (meaning grammar.now) b.building.count b.building.rows b.building.steps) (TooMany (meaning grammar.now)) }
-        ensures counted { MatchResult result (λ b. Builds grammar.now b) (λ e. e ≡ TooManyStates) }
+        ensures { MatchResult result (λ b. Builds grammar.now b) (TooMany (meaning grammar.now)) }
     {
         let building = Building::all(grammar)?;
         Ok(BuiltStates {

@@ -5,7 +5,9 @@ mod building;
 mod builds;
 mod built;
 mod looks;
+mod once;
 mod source;
 mod writes;
 
 pub use built::BuiltStates;
+pub use once::states_are_built_in_one_way;

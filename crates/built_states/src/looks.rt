@@ -7,6 +7,7 @@ use rows::Row;
 
 impl BuiltStates {
     /// The row of a state; none where there is no such state.
+    #[tactic(auto, using(std::proofs::lemmas::Grind::common_steps, table_format::proofs::Sources::row_is))]
     pub fn row(&self, state: u8) -> Option<Row>
         ensures { RowAt (source self.now) state result }
     {

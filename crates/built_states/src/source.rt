@@ -29,7 +29,9 @@ impl StateSource for BuiltStates {
           some_states = ∥∥₁_elim b.built le_prop (λ x. x.some);
           few_states = few;
           well_formed = (held b.grammar).kept.well_formed;
+          some_terminals = (held b.grammar).kept.some_terminals;
           few_terminals = (held b.grammar).kept.few_terminals;
+          some_nonterminals = (held b.grammar).kept.some_nonterminals;
           few_nonterminals = (held b.grammar).kept.few_nonterminals;
         } };
 

@@ -25,7 +25,7 @@ pub enum TableFault {
     KnownRow { state: u8, symbol: u8 },
     /// A done mark that is not the one wanted.
     MarkWrong { state: u8, rule: u8 },
-    /// A state that no step leads to.
+    /// A state that steps do not reach from state 0.
     NeverReached { state: u8 },
     /// The grammar has more than 255 LR(0) item sets.
     TooManyStates,

@@ -5,7 +5,8 @@ ghost use Rattle.parsing.specs.Items.{Source};
 ghost use Rattle.grammar.specs.Questions.{left_side, right_length, right_symbol};
 ghost use Rattle.states.specs.Sources.{Sourced};
 
-/// The LR(0) states of a grammar. Questions alter nothing, and are answered for all arguments.
+/// States of a grammar, of which those that steps reach from the first are its LR(0) item sets.
+/// Questions alter nothing, and are answered for all arguments.
 pub trait StateSource {
     ghost meaning: { Self → Source };
 

@@ -1,7 +1,6 @@
 -- Where the parts of a table sheet stand, read off any bytes.
 --   Tells b h        h has the six numbers of the header of the bytes b
---   Cell n w c       the place n of a grid with w columns is in the row c .0 and the column c .1
-use Rattle.std.specs.Prelude.{◌≡◌, ℕ, ◌+◌, ◌*◌, ◌<◌, ◌≢◌, List}
+use Rattle.std.specs.Prelude.{◌≡◌, ℕ, List}
 use Rattle.grammar_format.specs.Fields.{number}
 use Rattle.table_format.specs.Sheets.{states_told, symbols_told, rules_told}
 use Rattle.table_explanation.specs.declared.fields.Header.{Header}
@@ -13,6 +12,3 @@ pub record Tells (b : List ℕ) (h : Header) : Type 0 where
   pub rules_are : h.layout.rules ≡ rules_told b
   pub steps_are_at : h.steps_at ≡ number b 8
   pub marks_are_at : h.marks_at ≡ number b 10
-
-abbrev pub Cell : ℕ → ℕ → ℕ × ℕ → Type 0
-Cell n w c = w ≢ 0 → (c.0 * w + c.1 ≡ n) × (c.1 < w)

@@ -3,5 +3,7 @@
 
 mod explanation;
 mod fields;
+mod lines;
+mod rule;
 
 pub use explanation::TableExplanation;

@@ -15,5 +15,6 @@ pub mod Sheets
 pub mod Alike
 pub mod Turns
 pub mod Checks
+pub mod Once
 pub mod Example
 pub mod Theorems

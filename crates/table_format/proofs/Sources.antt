@@ -1,8 +1,8 @@
 -- A table whose states match the LR(0) item sets is a lawful source, and no table answers anything outside the ranges.
-use Rattle.std.proofs.Common.{◌≡◌, ℕ, ◌<◌, ◌≤◌, Bool, true, false, cond, ◌&&◌, eqb, ltb, ◌⊎◌, Some, None, sym, refl, ap, ◌∙◌, subst, inl, inr, ⊎_elim, arith}
+use Rattle.std.proofs.Common.{◌≡◌, ℕ, ◌<◌, ◌≤◌, Bool, true, false, cond, ◌&&◌, eqb, ltb, ◌⊎◌, length, Some, None, sym, refl, ap, ◌∙◌, subst, inl, inr, ⊎_elim, arith}
 use mathlib.Core.Path.{fun_ext}
 use Rattle.std.proofs.lemmas.Bool.{and_parts, and_from, and_left, and_right, ltb-true, lt-ltb, le-ltb, true≢false}
-use Rattle.parsing.specs.Grammar.{Grammar, rule_count}
+use Rattle.parsing.specs.Grammar.{Grammar, rule_count, rhs}
 use Rattle.parsing.specs.Items.{Initial, Lawful}
 use Rattle.table_format.specs.ItemSets.{Items, symbols, NoStep, Moved, StepTo, RightSides}
 use Rattle.table_format.specs.Tables.{Table, Matches, wholly, answered, source_of, Bounded}
@@ -45,6 +45,11 @@ bounded g t rows = record {
     outside s x n c (inl h) = and_left (ltb s t.states) (ltb x n && c) (le-ltb s t.states h)
     outside s x n c (inr h) = and_right (ltb s t.states) (ltb x n && c) (and_left (ltb x n) c (le-ltb x n h))
 
+-- What the source has of a state is its row.
+pub row_is : (g : Grammar) (t : Table) (rows : ℕ → Items) (s : ℕ) → s < t.states → (source_of g t rows).has s ≡ rows s
+unfolding source_of
+row_is g t rows s h = ap {B = Items} (λ (c : Bool) (r d : ℕ). c && rows s r d) (lt-ltb s t.states h)
+
 module _ {g : Grammar} {t : Table} {rows : ℕ → Items} (rs : RightSides g) (few : t.states ≤ 255) (m : Matches g t rows) where
   -- A step that is answered is the step of the row.
   answered_step : (b X s : ℕ) → b < t.states → answered (steps? g t b X) (t.step b X) ≡ Some s → (s < t.states) × StepTo g (rows b) X (rows s)
@@ -77,24 +82,38 @@ module _ {g : Grammar} {t : Table} {rows : ℕ → Items} (rs : RightSides g) (f
   done_is s r h q =
       rw (lt-ltb s t.states h, lt-ltb r (rule_count g) q, m.marks s r h q) (one_or_none (wholly g (rows s) r))
 
+  item_is : (s r d : ℕ) → s < t.states → (ltb s t.states && rows s r d) ≡ rows s r d
+  item_is s r d h = ap (λ (c : Bool). c && rows s r d) (lt-ltb s t.states h)
+
+  zero_in : 0 < t.states
+  zero_in = omega (arith, (matches_ranged few m).some_states)
+
   pub lawful : Lawful (source_of g t rows)
   unfolding source_of
   lawful = record {
-    first_in = (matches_ranged few m).some_states;
+    first_in = zero_in;
     next_in = λ b X s h e. (answered_step b X s h e).0;
     first_row = λ r d. (
-      λ k. in_closure g Initial initial? r d ((m.zero_first r d).0 k),
-      λ c. (m.zero_first r d).1 ∣ c ∣₁,
+      λ k. in_closure g Initial initial? r d ((m.zero_first r d).0 (sym (item_is 0 r d zero_in) ∙ k)),
+      λ c. item_is 0 r d zero_in ∙ (m.zero_first r d).1 ∣ c ∣₁,
     );
     next_row = λ b X s h e r d.
-        let st = (answered_step b X s h e).1 in (
-          λ k. closure_by (λ q c. moved_step) (in_closure g (Moved g (rows b) X) (moved? g (rows b) X) r d ((st.row r d).0 k)),
-          λ c. (st.row r d).1 ∣ closure_by (λ q c. step_moved) c ∣₁,
+        let (l, st) = answered_step b X s h e in
+        let from = row_is g t rows b h in (
+          λ k.
+              closure_by (λ q c x. moved_step (subst (λ (w : Items). Moved g w X q c) (sym from) x))
+              (in_closure g (Moved g (rows b) X) (moved? g (rows b) X) r d ((st.row r d).0 (sym (item_is s r d l) ∙ k))),
+          λ c.
+              item_is s r d l
+              ∙ (st.row r d).1 ∣ closure_by (λ q c x. subst (λ (w : Items). Moved g w X q c) from (step_moved x)) c ∣₁,
         );
     next_none = λ b X h. (
-      λ e. unanswered b X h e,
-      λ n. no_answer (steps? g t b X) (t.step b X) (λ s e. not_both (answered_step b X s h e).1 n),
+      λ e r d k n. unanswered b X h e r d (sym (item_is b r d h) ∙ k) n,
+      λ n.
+          no_answer (steps? g t b X) (t.step b X)
+          (λ s e. not_both (answered_step b X s h e).1 (λ r d k q. n r d (item_is b r d h ∙ k) q)),
     );
-    done_row = done_is;
-    rows_apart = λ s u hs hu e. m.one-to-one s u hs hu (fun_ext (λ r. fun_ext (λ d. e r d)));
+    done_row = λ s r h q. done_is s r h q ∙ sym (item_is s r (length (rhs g r)) h);
+    rows_apart = λ s u hs hu e.
+        m.one-to-one s u hs hu (fun_ext (λ r. fun_ext (λ d. sym (item_is s r d hs) ∙ (e r d ∙ item_is u r d hu))));
   }

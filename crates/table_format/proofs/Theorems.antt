@@ -2,12 +2,13 @@
 use Rattle.std.proofs.Common.{subst}
 use Rattle.table_format.specs.Walks.{Walk}
 use Rattle.table_format.specs.Breaches.{Checked}
-use Rattle.table_format.specs.Statements.{Exactness, Determinacy, Lawfulness, Counting, SheetExactness, SheetDeterminacy}
+use Rattle.table_format.specs.Statements.{Exactness, Determinacy, Lawfulness, OneSource, Counting, SheetExactness, SheetDeterminacy}
 use Rattle.table_format.specs.Statements.{Writing, Reading, Witness}
 use Rattle.table_format.proofs.Determined.{walk_one}
 use Rattle.table_format.proofs.Matching.{passed_matches}
 use Rattle.table_format.proofs.Passing.{matches_ranged, matches_passes}
 use Rattle.table_format.proofs.Sources.{lawful, bounded}
+use Rattle.table_format.proofs.Once.{source_one}
 use Rattle.table_format.proofs.Counting.{rows_each_once, each_once_length}
 use Rattle.table_format.proofs.Sheets.{table_of_bytes, table_bytes_of, table_bytes_below}
 use Rattle.table_format.proofs.Checks.{checked_one, checked_matches, merely_passes, matches_marks, written_passes}
@@ -24,6 +25,9 @@ determinacy g t rg o p = walk_one rg
 
 pub lawfulness : Lawfulness
 lawfulness g t rows rs few m = (lawful rs few m, bounded g t rows)
+
+pub one_source : OneSource
+one_source g t rows others = source_one
 
 pub counting : Counting
 counting g t rows m = (rows_each_once m, each_once_length m)

@@ -2,6 +2,7 @@
 --   Exactness          a walk passes exactly when the states match the LR(0) item sets
 --   Determinacy        a walk has one outcome
 --   Lawfulness         a table whose states match is a lawful source of states, and answers nothing outside the ranges
+--   OneSource          a table whose states match with some rows and with others is one source of states
 --   Counting           a table whose states match has as many states as there are LR(0) item sets
 --   SheetExactness     a check of a sheet passes exactly when the sheet has the form and its states match
 --   SheetDeterminacy   a check of a sheet has one outcome
@@ -30,6 +31,10 @@ Determinacy = (g : Grammar) (t : Table) → Ranged g t → (o p : Outcome) → W
 abbrev pub Lawfulness : Type 0
 Lawfulness = (g : Grammar) (t : Table) (rows : ℕ → Items) → RightSides g → t.states ≤ 255 → Matches g t rows
     → Lawful (source_of g t rows) × Bounded (source_of g t rows)
+
+abbrev pub OneSource : Type 0
+OneSource = (g : Grammar) (t : Table) (rows others : ℕ → Items) → RightSides g → Matches g t rows → Matches g t others
+    → source_of g t rows ≡ source_of g t others
 
 -- The rows of the states hold each item set once, and every list that does so is as long.
 abbrev pub Counting : Type 0

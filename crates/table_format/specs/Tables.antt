@@ -74,7 +74,7 @@ source_of g t rows =
       states = t.states;
       first = 0;
       next = λ s X. answered (nat_lt s t.states && (nat_lt X (symbols g) && nat_lt (t.step s X) 255)) (t.step s X);
-      has = rows;
+      has = λ s r d. nat_lt s t.states && rows s r d;
       done = λ s r. nat_lt s t.states && (nat_lt r (rule_count g) && t.mark s r == 1);
     }
 

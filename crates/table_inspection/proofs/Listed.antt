@@ -1,5 +1,5 @@
 -- The report of a table that passed, from the table.
-use Rattle.std.proofs.Common.{◌≡◌, ℕ, ◌≢◌, List, ◌++◌, length, codes, ap, ◌∙◌, subst}
+use Rattle.std.proofs.Common.{◌≡◌, ℕ, List, ◌++◌, length, codes, ap, ◌∙◌, subst}
 use Rattle.grammar.specs.Meaning.{sheet, meaning}
 use Rattle.grammar.specs.declared.grammar.Grammar.{Grammar}
 use Rattle.table_format.specs.Tables.{source_of}
@@ -10,7 +10,7 @@ use Rattle.built_states.specs.Built.{Built}
 use Rattle.built_states.specs.Writing.{sheet as built_sheet}
 use Rattle.built_states.specs.declared.built.BuiltStates.{BuiltStates}
 use Rattle.table_text.specs.States.{text_of_table}
-use Rattle.table_inspection.specs.Reports.{Passes, passing_line, listing, TableReport}
+use Rattle.table_inspection.specs.Reports.{Passes, passing_line, listing, Supplied, TableReport}
 use Rattle.table_inspection.proofs.Writing.{sheet_is}
 
 source_is : (g : Grammar) (b : List ℕ) (t : Table) → Accepted g b t → source t ≡ source_of (meaning g) (table_of b) (rows_of t)
@@ -29,9 +29,8 @@ text_of g t how n = text_of_table (sheet g) (source t) ++ passing_line how n
 text_is : (g : Grammar) (b : List ℕ) (t : Table) (how : List ℕ) → Accepted g b t → text_of g t how (length b) ≡ listing (sheet g) b (rows_of t) how
 text_is g b t how a = ap (λ src. text_of_table (sheet g) src ++ passing_line how (length b)) (source_is g b t a)
 
-pub supplied_report : (g : Grammar) (b : List ℕ) (t : Table) (text : List ℕ) → length b ≢ 0 → Accepted g b t
-    → text ≡ text_of g t (codes "supplied") (length b) → TableReport (sheet g) b text
-supplied_report g b t text some a e = TableReport.supplied (rows_of t) some (passed g b t a) (e ∙ text_is g b t (codes "supplied") a)
+pub supplied_listing : (g : Grammar) (b : List ℕ) (t : Table) → Accepted g b t → Supplied (sheet g) b (text_of g t (codes "supplied") (length b))
+supplied_listing g b t a = Supplied.passing (rows_of t) (passed g b t a) (text_is g b t (codes "supplied") a)
 
 pub built_report : (g : Grammar) (states : BuiltStates) (d : List ℕ) (t : Table) (text : List ℕ) → states.grammar ≡ g
     → Built (meaning g) states.building.count states.building.rows states.building.steps → d ≡ built_sheet states → Accepted g d t

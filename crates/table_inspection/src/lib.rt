@@ -2,5 +2,7 @@
 #![tactic(auto)]
 
 mod reporting;
+mod verdict;
 
 pub use reporting::{full_report, table_report};
+pub use verdict::TableVerdict;

@@ -1,35 +1,19 @@
 //! The report of a table sheet for a grammar, and of both sheets.
-ghost use Rattle.std.specs.Prelude.{◌≡◌, ℕ, List, ◌++◌, length, IfOk, string_bytes};
+ghost use Rattle.std.specs.Prelude.{◌≡◌, ℕ, List, length, IfOk, string_bytes};
 ghost use Rattle.grammar.specs.Meaning.{sheet as sheet_of, meaning};
 ghost use Rattle.built_states.specs.Meaning.{Builds};
 ghost use Rattle.built_states.specs.Writing.{sheet as built_sheet};
 ghost use Rattle.table_format.specs.Breaches.{Checked};
 ghost use Rattle.table_format.specs.Walks.{passes};
-ghost use Rattle.tables.specs.Meaning.{source};
-ghost use Rattle.table_text.specs.States.{text_of_table};
-ghost use Rattle.table_inspection.specs.Reports.{passing_line, refusal_text, TableReport, FullReport};
+ghost use Rattle.table_inspection.specs.Reports.{verdict_text, TableReport, FullReport};
 
+use crate::verdict::TableVerdict;
 use built_states::BuiltStates;
 use grammar::Grammar;
-use inspection::{refusal_report, report};
+use inspection::report;
 use std::alloc::{AllocError, Global};
 use table_explanation::TableExplanation;
-use table_text::TableText;
 use tables::{Finding, Table};
-
-/// The report of a table that passed: what it says, how it came about, and how many bytes its sheet has.
-fn listed(heap: Global, listing: TableText, how: &str, size: usize) -> Result<String, AllocError>
-    ensures { IfOk result (λ text. string_bytes text ≡ text_of_table (sheet_of listing.entry.grammar.now) (source listing.entry.table.now) ++ passing_line how.now size) }
-{
-    format!(in heap; "{listing}{how}: {size} bytes, they pass the check\n")
-}
-
-/// The report of a fault.
-fn refused(heap: Global, explanation: TableExplanation) -> Result<String, AllocError>
-    ensures { IfOk result (λ text. (words : List ℕ) × (string_bytes text ≡ refusal_text explanation.entry.finding.fault words)) }
-{
-    refusal_report(heap, explanation.finding.fault.refusal(), &explanation)
-}
 
 /// The table sheet of built states.
 fn written(heap: Global, states: &BuiltStates) -> Result<Vec<u8>, AllocError>
@@ -40,36 +24,39 @@ fn written(heap: Global, states: &BuiltStates) -> Result<Vec<u8>, AllocError>
     Ok(room)
 }
 
-/// The report of states that were built from a grammar.
-fn built_listed(heap: Global, grammar: &Grammar, states: &BuiltStates) -> Result<String, AllocError>
+/// The verdict on states that were built from a grammar.
+fn built_listed<'a>(
+    heap: Global,
+    grammar: &'a Grammar,
+    states: &BuiltStates,
+) -> Result<TableVerdict<'a>, AllocError>
     requires { Builds grammar.now states.now }
-    ensures { IfOk result (λ text. (b : List ℕ) → length b ≡ 0 → TableReport (sheet_of grammar.now) b (string_bytes text)) }
+    ensures { IfOk result (λ verdict. (b : List ℕ) → length b ≡ 0 → TableReport (sheet_of grammar.now) b (verdict_text verdict)) }
 {
     let sheet = written(heap, states)?;
     let table = Table::check(grammar, sheet.as_slice()).unwrap();
-    let listing = TableText {
+    Ok(TableVerdict::Passing {
         grammar,
-        table: &table,
-    };
-    listed(heap, listing, "built and written", sheet.len())
+        table,
+        how: "built and written",
+        size: sheet.len(),
+    })
 }
 
-/// The report of the states that are built from a grammar.
-fn built(heap: Global, grammar: &Grammar) -> Result<String, AllocError>
-    ensures { IfOk result (λ text. (b : List ℕ) → length b ≡ 0 → TableReport (sheet_of grammar.now) b (string_bytes text)) }
+/// The verdict where there is no sheet: on the states that are built from the grammar.
+fn built<'a>(
+    heap: Global,
+    grammar: &'a Grammar,
+    sheet: &'a [u8],
+) -> Result<TableVerdict<'a>, AllocError>
+    requires { length sheet.now ≡ 0 }
+    ensures { IfOk result (λ verdict. TableReport (sheet_of grammar.now) sheet.now (verdict_text verdict)) }
 {
     match BuiltStates::build(grammar) {
         Ok(states) => built_listed(heap, grammar, &states),
         Err(fault) => {
             let finding = Finding { fault, row: None };
-            refused(
-                heap,
-                TableExplanation {
-                    grammar,
-                    sheet: &[],
-                    finding,
-                },
-            )
+            Ok(TableVerdict::Refused(TableExplanation::of(grammar, sheet, finding)))
         }
     }
 }
@@ -79,25 +66,10 @@ pub fn table_report(heap: Global, grammar: &Grammar, sheet: &[u8]) -> Result<Str
     ensures { IfOk result (λ text. TableReport (sheet_of grammar.now) sheet.now (string_bytes text)) }
 {
     if sheet.is_empty() {
-        return built(heap, grammar);
+        let verdict = built(heap, grammar, sheet)?;
+        return verdict.to_string(heap);
     }
-    match Table::examine(grammar, sheet) {
-        Ok(table) => {
-            let listing = TableText {
-                grammar,
-                table: &table,
-            };
-            listed(heap, listing, "supplied", sheet.len())
-        }
-        Err(finding) => refused(
-            heap,
-            TableExplanation {
-                grammar,
-                sheet,
-                finding,
-            },
-        ),
-    }
+    TableVerdict::supplied(grammar, sheet).to_string(heap)
 }
 
 /// What `inspect_tables` prints: the report of a grammar sheet and, where that is not refused, the report of a table sheet for it.

@@ -65,7 +65,9 @@ module _ (t : Table) where
     some_states = omega (arith, states_of (bytes t), held.formed.form.some_states);
     few_states = few;
     well_formed = well_formed (grammar_of t);
+    some_terminals = (grammar_held (grammar_of t)).kept.some_terminals;
     few_terminals = (grammar_held (grammar_of t)).kept.few_terminals;
+    some_nonterminals = (grammar_held (grammar_of t)).kept.some_nonterminals;
     few_nonterminals = (grammar_held (grammar_of t)).kept.few_nonterminals;
   }
     where

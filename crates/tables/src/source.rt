@@ -76,7 +76,7 @@ impl Table {
     }
 
     /// The row of a state; none where there is no such state.
-    #[tactic(auto, unfolding(crate::specs::Meaning::source, table_format::specs::Tables::source_of, crate::specs::Lists::row_in))]
+    #[tactic(auto, using(std::proofs::lemmas::Grind::common_steps, table_format::proofs::Sources::row_is), unfolding(crate::specs::Meaning::source, table_format::specs::Tables::source_of, crate::specs::Lists::row_in))]
     pub fn row(&self, state: u8) -> Option<Row>
         ensures { RowAt (source self.now) state result }
     {

@@ -67,7 +67,7 @@ impl Claim<'_> {
     {
         let mut known = KnownStates::begin(Row::first(self.grammar));
         let mut place = 0;
-        // By label: nested loops that a label leaves with the fault are a rule of the project.
+        // By label: a form that is laid down (docs/DECISIONS.md).
         let fault = 'walk: {
             // By place: the known states grow on the way.
             while place < known.len() {

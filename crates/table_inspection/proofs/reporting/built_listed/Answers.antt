@@ -1,9 +1,7 @@
-use Rattle.std.proofs.Common.{◌≡◌, ℕ, List, length, string_bytes, codes, MatchResult, sym, ap, ◌∙◌, subst}
-use Rattle.std.proofs.lemmas.Result.{IfOk-weaker}
-use Rattle.grammar.specs.Meaning.{sheet, meaning}
+use Rattle.std.proofs.Common.{◌≡◌, length, codes, MatchResult, sym, ap, ◌∙◌, subst}
+use Rattle.grammar.specs.Meaning.{meaning}
 use Rattle.tables.specs.Faults.{Refused}
 use Rattle.tables.specs.Meaning.{Accepted}
-use Rattle.table_inspection.specs.Reports.{TableReport}
 use Rattle.table_inspection.proofs.Listed.{text_of, built_report}
 use Rattle.table_inspection.proofs.Writing.{unwraps, not_refused}
 use Rattle.table_inspection.proofs.reporting.built_listed.Goals as goal
@@ -22,7 +20,5 @@ returns c =
     let a = subst (λ r. MatchResult r (Accepted g d) (Refused (meaning g) d)) c.unwrap-table.ensures c.check.ensures in
     let how = codes "built and written" in
     let size : c.len.result ≡ length d = c.len.ensures ∙ sym c.as_slice.ensures.len in
-    IfOk-weaker c.listed.result (λ text. string_bytes text ≡ text_of g t how c.len.result)
-    (λ text. (b : List ℕ) → length b ≡ 0 → TableReport (sheet g) b (string_bytes text))
-    (λ text p. built_report g c.args.states.now d t (string_bytes text) c.requires.over_grammar c.requires.built
-    (c.as_slice.ensures.value ∙ c.in_ok-sheet.ensures.0) a (p ∙ ap (text_of g t how) size)) c.listed.ensures
+    built_report g c.args.states.now d t (text_of g t how c.len.result) c.requires.over_grammar c.requires.built
+    (c.as_slice.ensures.value ∙ c.in_ok-sheet.ensures.0) a (ap (text_of g t how) size)

@@ -1,33 +1,25 @@
-use Rattle.std.proofs.Common.{◌≡◌, ℕ, false, ◌≢◌, List, length, string_bytes, codes, sym, refl, ◌∙◌, eq-eqb, eqb-true}
+use Rattle.std.proofs.Common.{◌≡◌, false, ◌≢◌, length, string_bytes, sym, refl, ◌∙◌, eq-eqb, eqb-true, subst}
 use borrow.Author.Tests.{both_ways}
 use Rattle.std.proofs.lemmas.Result.{IfOk-weaker}
 use Rattle.grammar.specs.Meaning.{sheet}
-use Rattle.table_inspection.specs.Reports.{refusal_text, TableReport}
-use Rattle.table_inspection.proofs.Listed.{text_of, supplied_report}
+use Rattle.table_inspection.specs.Reports.{verdict_text, Supplied, TableReport}
 use Rattle.table_inspection.proofs.reporting.table_report.Goals as goal
+
+pub built-requires : goal.built-requires
+built-requires c = eqb-true _ _ (sym c.if-is_empty.ensures)
 
 pub returns-then-is_empty : goal.returns-then-is_empty
 returns-then-is_empty c =
     let g = c.args.grammar.now in
     let b = c.args.sheet.now in
-    let none : length b ≡ 0 = eqb-true _ _ (sym c.if-is_empty.ensures) in
-    IfOk-weaker c.built.result (λ text. (b : List ℕ) → length b ≡ 0 → TableReport (sheet g) b (string_bytes text))
-    (λ text. TableReport (sheet g) b (string_bytes text)) (λ text p. p b none) c.built.ensures
+    let v = c.in_ok-verdict.verdict in
+    IfOk-weaker c.to_string.result (λ text. string_bytes text ≡ verdict_text v) (λ text. TableReport (sheet g) b (string_bytes text))
+    (λ text p. subst (TableReport (sheet g) b) (sym p) c.in_ok-verdict.ensures) c.to_string.ensures.ok
 
-pub returns-in-Ok : goal.returns-in-Ok
-returns-in-Ok c =
+pub returns : goal.returns
+returns c =
     let g = c.args.grammar.now in
     let b = c.args.sheet.now in
-    let t = c.in-Ok.table in
     let some : length b ≢ 0 = λ e. both_ways false refl (c.if-is_empty.ensures ∙ eq-eqb (length b) 0 e) in
-    IfOk-weaker c.listed.result (λ text. string_bytes text ≡ text_of g t (codes "supplied") (length b)) (λ text. TableReport (sheet g) b (string_bytes text))
-    (λ text p. supplied_report g b t (string_bytes text) some c.in-Ok.ensures p) c.listed.ensures
-
-pub returns-in-Err : goal.returns-in-Err
-returns-in-Err c =
-    let g = c.args.grammar.now in
-    let b = c.args.sheet.now in
-    let f = c.in-Err.finding.fault in
-    let some : length b ≢ 0 = λ e. both_ways false refl (c.if-is_empty.ensures ∙ eq-eqb (length b) 0 e) in
-    IfOk-weaker c.refused.result (λ text. (words : List ℕ) × (string_bytes text ≡ refusal_text f words)) (λ text. TableReport (sheet g) b (string_bytes text))
-    (λ text p. TableReport.refused f p.0 some c.in-Err.ensures.refused p.1) c.refused.ensures
+    IfOk-weaker c.to_string-2.result (λ text. string_bytes text ≡ verdict_text c.supplied.result) (λ text. TableReport (sheet g) b (string_bytes text))
+    (λ text p. TableReport.supplied some (subst (Supplied (sheet g) b) (sym p) c.supplied.ensures)) c.to_string-2.ensures.ok

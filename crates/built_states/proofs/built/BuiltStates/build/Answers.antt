@@ -12,7 +12,4 @@ invariant_of-result c =
 pub returns : goal.returns
 returns c =
     let f = finished (meaning c.args.grammar.now) c.in_ok-building.building (right_sides c.args.grammar.now) c.in_ok-building.ensures in
-    record {
-      built = (refl, f);
-      counted = record { over_grammar = refl; built = f; counted = set_count f.matched; not_many = not_many f };
-    }
+    record { over_grammar = refl; built = f; counted = set_count f.matched; not_many = not_many f }
