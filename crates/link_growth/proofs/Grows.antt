@@ -66,6 +66,10 @@ grown_old {j = j} {s} {p} {b} {i} (add {ys = ys} {s = q} {b = c} {i = k} g m n) 
     (λ (e : lnk s p b i ≡ lnk q j c k). absurd (ne (ap (λ (l : Link). l.place) e)))
     (mem_split ys (lnk q j c k) h)
 
+pub live_old : {src : Source} {w : Option ℕ} {p b i : ℕ} {xs ys : List Link} → Grown src w p xs ys → (i ≡ p → ⊥) → LiveOf src (Has ys) b i → LiveOf src (Has xs) b i
+live_old g ne (inl e) = inl e
+live_old g ne (inr x) = inr (x.0, x.1, grown_old g ne x.2)
+
 -- Reductions need no word.
 pub grown_lift : {src : Source} {j : ℕ} {xs ys : List Link} (w : Option ℕ) → Grown src None j xs ys → Grown src w j xs ys
 grown_lift w same = same

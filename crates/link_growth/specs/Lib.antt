@@ -1,4 +1,5 @@
 pub mod Entries
 pub mod Growth
+pub mod Closures
 pub mod Counting
 pub mod Picking

@@ -1,6 +1,7 @@
 //! The links of a generalised LR reading, and the theory of lists of links that grow by the word rule and the reduction rule.
 #![tactic(auto)]
 
+ghost use Rattle.link_growth.specs.Closures.{OneClosure};
 ghost use Rattle.link_growth.specs.Counting.{Counting};
 
 /// A link of the graph-structured stack: the state at its place stands on the state below, at the place below.
@@ -20,8 +21,11 @@ pub struct Cell {
 }
 
 /// The number of links of some words is one number, and a list without repeats of their links is no longer.
-pub fn links_have_one_number() -> u8
+pub fn links_have_one_number()
     ensures { Counting }
-{
-    0
-}
+{}
+
+/// What the rules make of some links at a place is one set, and how many links it has is one number.
+pub fn links_have_one_closure()
+    ensures { OneClosure }
+{}

@@ -2,9 +2,10 @@
 use Rattle.std.proofs.Common.{◌≡◌, ℕ, ◌+◌, ◌<◌, ◌≤◌, ◌≢◌, length, get_or, set, sym, refl, ap, ◌∙◌, subst, ⊎_elim, arith, get_or-set_other, get_or-set_same}
 use Rattle.std.proofs.lemmas.Bool.{cases_eq, cases_lt}
 use Rattle.link_growth.specs.declared.Link.{Link}
-use Rattle.link_growth.specs.Entries.{lnk, at}
+use Rattle.link_growth.specs.Entries.{lnk, at, Mem}
 use Rattle.links.specs.declared.table.Table.{Table}
-use Rattle.links.specs.Tables.{StartsAt}
+use Rattle.links.specs.Tables.{content, StartsAt}
+use Rattle.links.proofs.Contents.{member}
 
 -- Where the links of a place begin.
 pub starts_in : (t : Table) (i : ℕ) → i ≤ t.place → StartsAt t i (get_or t.starts i 0)
@@ -28,6 +29,17 @@ module _ (t : Table) (l : Link) (room : t.count < length t.links) (here : l.plac
       let is : k ≡ t.count = omega arith in
       subst (λ v. i ≤ (at (set t.links t.count l) v).place) (sym is)
       (subst (λ (v : Link). i ≤ v.place) (sym (get_or-set_same t.links t.count l (lnk 0 0 0 0) room)) (omega arith)))
+      (cases_lt k t.count)
+
+  pub add_once : (Mem l (content t) → ⊥) → (h k : ℕ) → h < k → k < t.count + 1 → at (set t.links t.count l) h ≢ at (set t.links t.count l) k
+  add_once fresh h k lo hi e =
+      ⊎_elim
+      (λ (y : k < t.count). t.once h k lo y (sym (old h (omega arith)) ∙ e ∙ old k y))
+      (λ (y : t.count ≤ k).
+      let is : k ≡ t.count = omega arith in
+      let last : at (set t.links t.count l) k ≡ l =
+      ap (λ v. at (set t.links t.count l) v) is ∙ get_or-set_same t.links t.count l (lnk 0 0 0 0) room in
+      fresh (subst (λ v. Mem v (content t)) (sym (old h (omega arith)) ∙ e ∙ last) (member t h (omega arith))))
       (cases_lt k t.count)
 
 -- A place is begun.

@@ -1,17 +1,17 @@
 -- What a table's bounds say of its content.
-use Rattle.std.proofs.Common.{◌≡◌, ℕ, ◌+◌, ◌<◌, ◌≤◌, List, [], ◌∷◌, ◌++◌, length, get_or, take, drop, Some, Ok, Err, Option, Result, sym, refl, ap, ◌∙◌, subst, ⊎_elim, arith, length-take-le, length-drop, get_or-take, MatchResult, is_err, true, false, true≢false}
+use Rattle.std.proofs.Common.{◌≡◌, ℕ, ◌+◌, ◌<◌, ◌≤◌, List, [], ◌∷◌, ◌++◌, length, get_or, take, drop, Some, None, Ok, Err, Option, Result, sym, refl, ap, ◌∙◌, subst, ⊎_elim, arith, length-take-le, length-drop, get_or-take, MatchResult, is_err, true, false, true≢false}
 use Rattle.std.proofs.lemmas.Bool.{cases_lt}
 use Rattle.std.proofs.lemmas.List.{length_push, get_or-drop}
 use Rattle.parsing.specs.Items.{Source}
 use Rattle.parsing.specs.Links.{ChainOf, stay_of, down_of}
 use Rattle.link_growth.specs.declared.Link.{Link}
-use Rattle.link_growth.specs.declared.Cell.{Cell}
-use Rattle.link_growth.specs.Entries.{lnk, at, Small, Mem, Has}
+use Rattle.link_growth.specs.Entries.{lnk, at, Small, Mem, Has, Once}
 use Rattle.link_growth.specs.Growth.{Makes, shifts, reduces, Grown, same, add, Overfull, Laid}
 use Rattle.link_growth.proofs.Members.{mem_take, take_index, mem_last, mem_index, mem_parts}
 use Rattle.link_growth.proofs.Grows.{grown_long, grown_same, grown_front}
 use Rattle.links.specs.declared.table.Table.{Table}
-use Rattle.links.specs.Tables.{content, StartsAt, Kept, Added, Refused, StepsBy, there, new, Placed, nowhere, somewhere, Turned}
+use Rattle.links.specs.Tables.{content, StartsAt, Kept, Added, Refused, there, new}
+use Rattle.links.proofs.Sieves.{apart_once}
 
 pub long : (t : Table) → length (content t) ≡ t.count
 long t = length-take-le t.count t.links (omega (arith, t.room, t.few))
@@ -21,6 +21,11 @@ content_at t k lt = get_or-take t.count t.links k (lnk 0 0 0 0) lt
 
 pub member : (t : Table) (k : ℕ) → k < t.count → Mem (at t.links k) (content t)
 member t k lt = mem_take t.links t.count k (lnk 0 0 0 0) (omega (arith, t.room, t.few)) lt
+
+pub content_once : (t : Table) → Once (content t)
+content_once t =
+    let size = long t in
+    apart_once (lnk 0 0 0 0) (content t) (λ h k lo hi e. t.once h k lo (omega arith) (sym (content_at t h (omega arith)) ∙ e ∙ content_at t k (omega arith)))
 
 pub find : (t : Table) {l : Link} → Mem l (content t) → (k : ℕ) × (k < t.count) × (at t.links k ≡ l)
 find t m = take_index t.links t.count (lnk 0 0 0 0) (omega (arith, t.room, t.few)) m
@@ -112,6 +117,21 @@ kept_more {t} {u} {v} {limit} k l = record {
       (cases_lt u.count v.count);
 }
 
+-- The link that b at i has by the symbol x is put behind xs, unless there is none or it is there.
+pub data Placed (src : Source) (j x b i : ℕ) (xs ys : List Link) : Type 0 where
+  nowhere : src.next b x ≡ None → ys ≡ xs → Placed src j x b i xs ys
+  somewhere : (s : ℕ) → src.next b x ≡ Some s → Added xs ys (lnk s j b i) → Placed src j x b i xs ys
+
+-- It is new, there is no room for it, and ys is xs.
+pub record Turned (src : Source) (j x b i limit : ℕ) (xs ys : List Link) : Type 0 where
+  pub state : ℕ
+  pub steps : src.next b x ≡ Some state
+  pub refused : Refused xs ys (lnk state j b i) limit
+
+pub turned_by : {src : Source} {j x b i limit s : ℕ} {xs ys : List Link} → src.next b x ≡ Some s → Refused xs ys (lnk s j b i) limit
+    → Turned src j x b i limit xs ys
+turned_by {s = s} n r = record { state = s; steps = n; refused = r }
+
 -- One link put behind.
 pub placed_grown : {src : Source} {w : Option ℕ} {j x b i : ℕ} {xs ys : List Link} → Placed src j x b i xs ys
     → ((s : ℕ) → src.next b x ≡ Some s → Makes src w j xs s b i) → Grown src w j xs ys
@@ -127,17 +147,6 @@ placed_has {j = j} {b = b} {i = i} {ys = ys} (somewhere q n (there m e)) s f =
 placed_has {j = j} {b = b} {i = i} {xs = xs} {ys = ys} (somewhere q n (new m e)) s f =
     let p : q ≡ s = cc in
     subst (λ v. Mem (lnk v j b i) ys) p (subst (λ v. Mem (lnk q j b i) v) (sym e) (mem_last xs (lnk q j b i)))
-
--- The link of a step.
-pub there_already : {src : Source} {j x : ℕ} {c : Cell} {l : Link} {xs : List Link} → StepsBy src j x c (Some l) → Mem l xs → Placed src j x c.state c.place xs xs
-there_already {xs = xs} (s, n, e) m = somewhere s n (there (subst (λ v. Mem v xs) e m) refl)
-
-pub placed_by : {src : Source} {j x : ℕ} {c : Cell} {l : Link} {xs ys : List Link} → StepsBy src j x c (Some l) → Added xs ys l → Placed src j x c.state c.place xs ys
-placed_by {xs = xs} {ys = ys} (s, n, e) a = somewhere s n (subst (λ v. Added xs ys v) e a)
-
-pub turned_by : {src : Source} {j x limit : ℕ} {c : Cell} {l : Link} {xs ys : List Link} → StepsBy src j x c (Some l) → Refused xs ys l limit
-    → Turned src j x c.state c.place limit xs ys
-turned_by {limit = limit} {xs = xs} {ys = ys} (s, n, e) r = record { state = s; steps = n; refused = subst (λ v. Refused xs ys v limit) e r }
 
 pub turned_overfull : {src : Source} {w : Option ℕ} {j x b i limit : ℕ} {xs ys : List Link} → Turned src j x b i limit xs ys
     → ((s : ℕ) → src.next b x ≡ Some s → Makes src w j xs s b i) → Overfull src w j xs limit

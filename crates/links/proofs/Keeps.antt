@@ -1,28 +1,18 @@
--- One word more, and fewer words.
-use Rattle.std.proofs.Common.{◌≡◌, ℕ, suc, ◌+◌, ◌-◌, ◌<◌, ◌≤◌, ◌≢◌, List, [], ◌∷◌, ◌++◌, length, get_or, take, drop, Some, None, Option, sym, refl, ap, ◌∙◌, subst, inl, inr, ⊎_elim, arith, length-take-le, take_all}
+-- One word more, no word, and fewer words.
+use Rattle.std.proofs.Common.{◌≡◌, ℕ, suc, ◌+◌, ◌-◌, ◌<◌, ◌≤◌, ◌≢◌, [], length, get_or, take, Some, None, Option, sym, refl, ap, ◌∙◌, subst, inl, inr, ⊎_elim, arith, take_all}
 use Rattle.std.proofs.lemmas.Bool.{cases_lt}
-use Rattle.std.proofs.lemmas.List.{get_or_push, length_push, take-append-drop}
 use Rattle.parsing.specs.Items.{Source}
-use Rattle.parsing.specs.Links.{Linked, Live, bottom, linked, LiveOf}
-use Rattle.parsing.proofs.Soundness.{linked_place}
-use Rattle.parsing.proofs.Prefix.{linked_prefix}
-use Rattle.parsing.proofs.Least.{live_of}
+use Rattle.parsing.specs.Links.{LiveOf}
 use Rattle.link_growth.specs.declared.Link.{Link}
-use Rattle.link_growth.specs.Entries.{lnk, at, Mem, Has, nil}
+use Rattle.link_growth.specs.Entries.{at, Mem, Has, nil}
 use Rattle.link_growth.specs.Growth.{Makes, shifts, Grown, Overfull, Shut, Stepped}
-use Rattle.link_growth.specs.Counting.{Exact, Exceeds}
-use Rattle.link_growth.proofs.Members.{mem_take, take_index, mem_front, once_front}
-use Rattle.link_growth.proofs.Grows.{live_more, grown_mem, grown_has, grown_front, grown_old, grown_lift, overfull_lift}
-use Rattle.link_growth.proofs.Exacts.{True, grown_true, grown_once, whole, exceeds, fits}
+use Rattle.link_growth.specs.Closures.{Closure, Outgrows, StepsFrom}
+use Rattle.link_growth.proofs.Grows.{grown_mem, grown_has, grown_front, grown_lift, overfull_lift}
+use Rattle.link_growth.proofs.Closing.{closed, overfull_outgrows}
 use Rattle.links.specs.declared.table.Table.{Table}
-use Rattle.links.specs.Tables.{content, StartsAt, Kept, Placed, Turned, FirstStepped, LinksStepped, Along, Begun, Cut}
-use Rattle.links.proofs.Contents.{long, content_at, member, find, high_of, entry, content_same, count_more, placed_grown, placed_has, turned_overfull}
+use Rattle.links.specs.Tables.{content, StartsAt, Kept, FirstStepped, LinksStepped, Along, Begun, Cut}
+use Rattle.links.proofs.Contents.{Placed, Turned, long, member, find, content_once, high_of, entry, content_same, count_more, placed_grown, placed_has, turned_overfull}
 use Rattle.links.proofs.Rounds.{along_same, along_more, along_overfull}
-
--- A table holds the links of the words.
-pub record Held (src : Source) (ws : List ℕ) (t : Table) : Type 0 where
-  pub place : t.place ≡ length ws
-  pub exact : Exact src ws (content t)
 
 -- The word rule from the first state.
 pub first_makes : {src : Source} (x : ℕ) (t : Table) → x < src.grammar.terminals → t.place ≡ 1 → (s : ℕ) → src.next src.first x ≡ Some s
@@ -113,108 +103,69 @@ pub extended_overfull : {src : Source} {x : ℕ} {t u : Table} {limit : ℕ} →
     → Overfull src (Some x) t.place (content t) limit
 extended_overfull {x = x} a o = along_overfull a (overfull_lift (Some x) o)
 
--- No words.
-nothing_true : {src : Source} {ws : List ℕ} → True src ws []
-nothing_true = λ s j b i m. elim m [ ]
-
-no_word : (ws : List ℕ) (x i : ℕ) (j : ℕ) → None ≡ Some x → j ≡ suc i → (i < length ws) × (get_or ws i 0 ≡ x)
-no_word ws x i j e f = let z : ◌≡◌ {A = ℕ} 0 1 = cc in absurd (omega arith)
-
-pub opened : {src : Source} {t v : Table} {limit : ℕ} → content t ≡ [] → t.place ≡ 0 → Along src None t v limit
-    → Shut src t.place (content v) → Held src [] v × (Exceeds src [] limit → ⊥)
-opened {src} {t} {v} {limit} none zero-place a shut =
-    let g : Grown src None 0 [] (content v) = subst (λ p. Grown src None p [] (content v)) zero-place (subst (λ z. Grown src None t.place z (content v)) none a.grown) in
-    let ok : True src [] (content v) = grown_true [] (λ x i e f. no_word [] x i 0 e f) nothing_true g in
-    let e : Exact src [] (content v) = record {
-      once = grown_once nil g;
-      sound = ok;
-      whole = whole [] (content v) 0 refl ok (λ s j b i lt. absurd (omega arith)) (λ s b i is. absurd (omega arith)) (subst (λ p. Shut src p (content v)) zero-place shut);
-    } in
-    let h = long v in
-    let c : t.count ≡ 0 = sym (long t) ∙ ap length none in
-    let w : length (content v) ≤ limit = ⊎_elim
-    (λ (more : 0 < v.count). let q = a.kept.within (omega arith) in omega arith)
-    (λ (less : v.count ≤ 0). omega arith)
-    (cases_lt 0 v.count) in
-    (record { place = a.kept.place ∙ zero-place; exact = e }, fits e w)
-
-pub not_opened : {src : Source} {limit : ℕ} (t : Table) → content t ≡ [] → Overfull src None t.place (content t) limit → Exceeds src [] limit
-not_opened {src} {limit} t none o =
-    exceeds [] (λ x i e f. no_word [] x i t.place e f) nothing_true nil (subst (λ z. Overfull src None t.place z limit) none o)
-
--- What is live at the end of the words.
-pub live_here : {src : Source} {ws : List ℕ} {t : Table} {b : ℕ} → Held src ws t → LiveOf src (Has (content t)) b t.place → Live src ws b (length ws)
-live_here {src} {ws} {b = b} h l = subst (λ p. Live src ws b p) h.place (live_of (live_more src h.exact.sound l))
-
-live_held : {src : Source} {ws : List ℕ} {t : Table} {b p : ℕ} → Held src ws t → Live src ws b p → LiveOf src (Has (content t)) b p
-live_held h bottom = inl (refl, refl)
-live_held h (linked {s = s} {j = j} {b = c} {i = i} k) = inr (c, i, h.exact.whole s j c i k)
-
-pub here_live : {src : Source} {ws : List ℕ} {t : Table} {b : ℕ} → Held src ws t → Live src ws b (length ws) → LiveOf src (Has (content t)) b t.place
-here_live {src} {t = t} {b = b} h l = subst (λ p. LiveOf src (Has (content t)) b p) (sym h.place) (live_held h l)
-
--- One word more.
-last_word : (ws : List ℕ) (x : ℕ) (p : ℕ) → p ≡ length ws + 1 → (y i : ℕ) → Some x ≡ Some y → p ≡ suc i → (i < length (ws ++ x ∷ [])) × (get_or (ws ++ x ∷ []) i 0 ≡ y)
-last_word ws x p e y i same_word is =
-    let n = length_push ws x in
-    let here : length ws ≡ i = omega arith in
-    let w : x ≡ y = cc in
-    (omega arith, get_or_push ws x 0 i here ∙ w)
-
-live_old : {src : Source} {w : Option ℕ} {p b i : ℕ} {xs ys : List Link} → Grown src w p xs ys → (i ≡ p → ⊥) → LiveOf src (Has ys) b i → LiveOf src (Has xs) b i
-live_old g ne (inl e) = inl e
-live_old g ne (inr x) = inr (x.0, x.1, grown_old g ne x.2)
-
-before : {src : Source} (ws vs : List ℕ) {xs : List Link} → True src ws xs → True src (ws ++ vs) xs
-before {src} ws vs ok = λ s j b i m. let l = ok s j b i m in (linked_prefix src ws vs s j b i (linked_place l)).1 l
-
+-- The word rule's links are new.
 some_of : (o : Option ℕ) → o ≢ None → (s : ℕ) × (o ≡ Some s)
 some_of None ne = absurd (ne refl)
 some_of (Some s) ne = (s, refl)
 
-pub taken : {src : Source} {x : ℕ} {t b v : Table} {limit : ℕ} → Begun t b → Along src (Some x) b v limit
-    → Stepped src x b.place (b.place - 1) (content b) (content v) → Shut src b.place (content v)
-    → (c : ℕ) → LiveOf src (Has (content t)) c t.place → src.next c x ≢ None
-    → (ws : List ℕ) → Held src ws t → Held src (ws ++ x ∷ []) v × (Exceeds src (ws ++ x ∷ []) limit → ⊥)
-taken {src} {x} {t} {b} {v} {limit} be a st shut c live steps ws h =
-    let p : b.place ≡ length ws + 1 = let q = be.place in let r = h.place in omega arith in
-    let n = length_push ws x in
-    let g : Grown src (Some x) b.place (content t) (content v) = subst (λ z. Grown src (Some x) b.place z (content v)) be.content a.grown in
-    let ok : True src (ws ++ x ∷ []) (content v) = grown_true (ws ++ x ∷ []) (last_word ws x b.place p) (before ws (x ∷ []) h.exact.sound) g in
-    let e : Exact src (ws ++ x ∷ []) (content v) = record {
-      once = grown_once h.exact.once g;
-      sound = ok;
-      whole = whole (ws ++ x ∷ []) (content v) b.place (omega arith) ok
-          (λ s j d i lt l. grown_has g s j d i (h.exact.whole s j d i ((linked_prefix src ws (x ∷ []) s j d i (omega arith)).0 l)))
-          (λ s d i is l m.
-          let here : length ws ≡ i = omega arith in
-          let at_i : b.place - 1 ≡ i = omega arith in
-          let old : LiveOf src (Has (content b)) d i = live_old a.grown (λ bad. absurd (omega arith)) l in
-          subst (λ z. Has (content v) s b.place d z) at_i
-          (st s d (subst (λ z. LiveOf src (Has (content b)) d z) (sym at_i) old) (ap (λ z. src.next d z) (sym (get_or_push ws x 0 i here)) ∙ m)))
-          shut;
-    } in
+pub grew : {src : Source} {x : ℕ} {t b v : Table} {limit : ℕ} → Begun t b → Along src (Some x) b v limit
+    → Stepped src x b.place (b.place - 1) (content b) (content v) → StepsFrom src (content t) t.place x → v.count ≤ limit
+grew {src} {x} {t} {b} {v} {limit} be a st (c, live, steps) =
     let (s, next) = some_of (src.next c x) steps in
     let at_t : b.place - 1 ≡ t.place = (let q = be.place in omega arith) in
     let made : Has (content v) s b.place c (b.place - 1) =
     st s c (subst (λ z. LiveOf src (Has (content b)) c z) (sym at_t) (subst (λ z. LiveOf src (Has z) c t.place) (sym be.content) live)) next in
     let m = count_more b v a.grown in
-    let grew : b.count < v.count = ⊎_elim
-    (λ (y : b.count < v.count). y)
+    ⊎_elim
+    (λ (y : b.count < v.count). a.kept.within y)
     (λ (y : v.count ≤ b.count).
     let old : Has (content t) s b.place c (b.place - 1) = subst (λ z. Has z s b.place c (b.place - 1)) (content_same b v a.grown (omega arith) ∙ be.content) made in
     let bad = high_of t s b.place c (b.place - 1) old in
     let q = be.place in
     absurd (omega arith))
-    (cases_lt b.count v.count) in
-    let w = a.kept.within grew in
-    (record { place = a.kept.place ∙ p ∙ sym n; exact = e }, fits e (let k = long v in omega arith))
+    (cases_lt b.count v.count)
 
-pub crowded : {src : Source} {x : ℕ} {t b : Table} {limit : ℕ} → Begun t b → Overfull src (Some x) b.place (content b) limit
-    → (ws : List ℕ) → Held src ws t → Exceeds src (ws ++ x ∷ []) limit
-crowded {src} {x} {t} {b} {limit} be o ws h =
-    let p : b.place ≡ length ws + 1 = let q = be.place in let r = h.place in omega arith in
-    exceeds (ws ++ x ∷ []) (last_word ws x b.place p) (before ws (x ∷ []) h.exact.sound) h.exact.once (subst (λ z. Overfull src (Some x) b.place z limit) be.content o)
+-- The links with those of one word more.
+pub next_closure : {src : Source} {x : ℕ} {t b v : Table} {limit : ℕ} → Begun t b → Along src (Some x) b v limit
+    → Stepped src x b.place (b.place - 1) (content b) (content v) → Shut src b.place (content v)
+    → Closure src (Some x) (suc t.place) (content t) (content v)
+next_closure {src} {x} {t} {b} {v} be a st shut =
+    let next : b.place ≡ suc t.place = (let q = be.place in omega arith) in
+    subst (λ z. Closure src (Some x) z (content t) (content v)) next
+    (subst (λ z. Closure src (Some x) b.place z (content v)) be.content
+    (closed a.grown (λ y i same_word is. step y i same_word is) shut (content_once b)))
+  where
+    step : (y i : ℕ) → Some x ≡ Some y → b.place ≡ suc i → Stepped src y b.place i (content b) (content v)
+    step y i same_word is =
+        let w : x ≡ y = cc in
+        let below : b.place - 1 ≡ i = omega arith in
+        subst (λ z. Stepped src z b.place i (content b) (content v)) w (subst (λ z. Stepped src x b.place z (content b) (content v)) below st)
+
+pub next_outgrows : {src : Source} {x n : ℕ} {t b : Table} → Begun t b → Overfull src (Some x) b.place (content b) n
+    → Outgrows src (Some x) (suc t.place) (content t) n
+next_outgrows {src} {x} {n} {t} {b} be o =
+    let next : b.place ≡ suc t.place = (let q = be.place in omega arith) in
+    subst (λ z. Outgrows src (Some x) z (content t) n) next
+    (subst (λ z. Outgrows src (Some x) b.place z n) be.content (overfull_outgrows (content_once b) o))
+
+-- Place 0 of a table without links.
+module _ {src : Source} (t : Table) {limit : ℕ} (none : content t ≡ []) (start : t.place ≡ 0) where
+  pub first_closure : {v : Table} → Along src None t v limit → Shut src t.place (content v) → Closure src None 0 [] (content v)
+  first_closure {v} a shut =
+      let g : Grown src None 0 [] (content v) = subst (λ p. Grown src None p [] (content v)) start (subst (λ z. Grown src None t.place z (content v)) none a.grown) in
+      closed g (λ x i e is. absurd (omega arith)) (subst (λ p. Shut src p (content v)) start shut) nil
+
+  pub first_fits : {v : Table} → Along src None t v limit → v.count ≤ limit
+  first_fits {v} a =
+      let c : t.count ≡ 0 = sym (long t) ∙ ap length none in
+      ⊎_elim
+      (λ (more : 0 < v.count). a.kept.within (omega arith))
+      (λ (less : v.count ≤ 0). omega arith)
+      (cases_lt 0 v.count)
+
+  pub first_outgrows : Overfull src None t.place (content t) limit → Outgrows src None 0 [] limit
+  first_outgrows o =
+      overfull_outgrows nil (subst (λ p. Overfull src None p [] limit) start (subst (λ z. Overfull src None t.place z limit) none o))
 
 pub undone : {src : Source} {x : ℕ} {t b v w : Table} {limit k : ℕ} → Begun t b → Along src (Some x) b v limit → Cut k v w → k + 1 ≡ v.place
     → (content w ≡ content t) × (w.place ≡ t.place)
@@ -227,52 +178,7 @@ undone {src} {x} {t} {b} {v} {w} {limit} {k} be a cut e =
       (let r = cut.place in let y = a.kept.place in let z = be.place in omega arith),
     )
 
--- Fewer words.
-pub front_exact : {src : Source} (ws : List ℕ) (t : Table) (k n : ℕ) → k ≤ t.place → StartsAt t (k + 1) n → Held src ws t → Exact src (take k ws) (take n (content t))
-front_exact {src} ws t k n le a h =
-    record {
-      once = once_front n h.exact.once;
-      sound = λ s j b i m.
-          let l : Linked src ws s j b i = h.exact.sound s j b i (mem_front n (content t) m) in
-          let (f, lt, e) = take_index (content t) n (lnk 0 0 0 0) inside m in
-          let z : (at t.links f).place ≡ j = ap (λ (v : Link). v.place) (sym (content_at t f (let w = a.within in omega arith)) ∙ e) in
-          let p = a.under f lt in
-          (linked_prefix src (take k ws) (drop k ws) s j b i (omega (arith, size))).0 (subst (λ v. Linked src v s j b i) (sym split) l);
-      whole = λ s j b i l.
-          let p = linked_place l in
-          let m : Has (content t) s j b i = h.exact.whole s j b i (subst (λ v. Linked src v s j b i) split ((linked_prefix src (take k ws) (drop k ws) s j b i p).1 l)) in
-          let (f, lt, e) = find t m in
-          let z : (at t.links f).place ≡ j = ap (λ (v : Link). v.place) e in
-          let low : f < n = ⊎_elim (λ (y : f < n). y) (λ (y : n ≤ f). absurd (let q = a.over f y lt in omega (arith, size))) (cases_lt f n) in
-          subst (λ v. Mem v (take n (content t))) (content_at t f lt ∙ e) (mem_take (content t) n f (lnk 0 0 0 0) inside low);
-    }
-  where
-    short : k ≤ length ws
-    short = let p = h.place in omega arith
-
-    size : length (take k ws) ≡ k
-    size = length-take-le k ws short
-
-    split : take k ws ++ drop k ws ≡ ws
-    split = take-append-drop k ws
-
-    inside : n ≤ length (content t)
-    inside = let e = long t in let w = a.within in omega arith
-
-pub cut_held : {src : Source} (ws : List ℕ) (t u : Table) (k : ℕ) → k ≤ t.place → Cut k t u → Held src ws t → Held src (take k ws) u
-cut_held {src} ws t u k le c h = record {
-  place = c.place ∙ sym (length-take-le k ws (let p = h.place in omega arith));
-  exact = subst (λ v. Exact src (take k ws) v) (sym c.front) (front_exact ws t k u.count le c.start h);
-}
-
--- The front of a table, when the links of fewer words are more than a limit, and when they are not.
-pub front_exceeds : {src : Source} (ws : List ℕ) (t : Table) (k n limit : ℕ) → k ≤ t.place → StartsAt t (k + 1) n → Held src ws t → limit < n → Exceeds src (take k ws) limit
-front_exceeds ws t k n limit le a h lt =
-    let e = front_exact ws t k n le a h in
-    let q = long t in
-    let w = a.within in
-    record { some = take n (content t); once = e.once; sound = e.sound; long = (let z = length-take-le n (content t) (omega arith) in omega arith) }
-
+-- A table is cut back.
 pub starts_once : {t : Table} {i m n : ℕ} → StartsAt t i m → StartsAt t i n → m ≤ n
 starts_once {t} {i} {m} {n} a b =
     ⊎_elim
@@ -283,11 +189,3 @@ starts_once {t} {i} {m} {n} a b =
     absurd (omega arith))
     (λ (good : m ≤ n). good)
     (cases_lt n m)
-
-pub cut_fits : {src : Source} (ws : List ℕ) (t u : Table) (k n limit : ℕ) → k ≤ t.place → Cut k t u → StartsAt t (k + 1) n → Held src ws t → n ≤ limit
-    → Exceeds src (take k ws) limit → ⊥
-cut_fits ws t u k n limit le c a h small =
-    let r = cut_held ws t u k le c h in
-    let z = starts_once c.start a in
-    let q = long u in
-    fits r.exact (omega arith)

@@ -1,5 +1,6 @@
 pub mod Lists
 pub mod Members
+pub mod Sieves
 pub mod Contents
 pub mod Places
 pub mod Changes
@@ -7,3 +8,4 @@ pub mod Spreads
 pub mod Rounds
 pub mod Keeps
 pub mod Calls
+pub mod Words

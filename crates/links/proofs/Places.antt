@@ -1,65 +1,92 @@
--- The links of one place.
-use Rattle.std.proofs.Common.{◌≡◌, ℕ, ◌+◌, ◌-◌, ◌<◌, ◌≤◌, ◌≢◌, ◌↔◌, ◌&&◌, Bool, true, false, nat_eq, Decides, List, [], get_or, take, drop, is_some, None, Ok, Err, Result, MatchResult, sym, refl, ap, ◌∙◌, subst, inl, inr, ⊎_elim, arith, rules, length-drop}
+-- The links of one place, and those up to one.
+use Rattle.std.proofs.Common.{◌≡◌, ℕ, ◌+◌, ◌-◌, ◌<◌, ◌≤◌, ◌≢◌, ◌&&◌, Bool, true, false, nat_eq, nat_le, Decides, List, [], get_or, take, drop, is_some, None, Ok, Err, Result, MatchResult, sym, refl, ap, ◌∙◌, subst, inl, inr, ⊎_elim, arith, rules, take_all}
 use Rattle.std.specs.List.{list_any}
 use Rattle.std.specs.Result.{OkIff}
-use Rattle.std.proofs.lemmas.List.{get_or-drop}
-use Rattle.std.proofs.lemmas.Bool.{cases_lt, both_ways, eq-eqb}
+use Rattle.std.proofs.lemmas.List.{drop-take, take-take}
+use Rattle.std.proofs.lemmas.Bool.{cases_lt, both_ways, eq-eqb, ne_eqb, le-leb, lt-leb}
 use Rattle.parsing.specs.Items.{Source}
-use Rattle.parsing.specs.Links.{Linked, LiveOf}
+use Rattle.parsing.specs.Links.{LiveOf}
 use Rattle.link_growth.specs.declared.Link.{Link}
 use Rattle.link_growth.specs.Entries.{lnk, at, Mem, Has}
-use Rattle.link_growth.proofs.Members.{mem_take, take_index}
 use Rattle.links.specs.declared.table.Table.{Table}
+use Rattle.links.specs.Placing.{up_to, at_place, Rising}
 use Rattle.links.specs.Tables.{content, StartsAt}
-use Rattle.links.specs.declared.links.Links.{Links}
-use Rattle.links.specs.Holding.{links_of, OfPlace, Holds}
 use Rattle.links.proofs.Lists.{one_of, none_of, is_none, some_not}
-use Rattle.links.proofs.Contents.{member, find, small_of, starts_le}
+use Rattle.links.proofs.Sieves.{OfPlace, sieve_none, sieve_front, sieve_piece}
+use Rattle.links.proofs.Contents.{long, content_at, starts_le}
 
--- The links of one place.
-pub of_place : (t : Table) (p m n : ℕ) → StartsAt t p m → StartsAt t (p + 1) n → OfPlace (content t) p (take (n - m) (drop m t.links))
-of_place t p m n a b x = (into, out)
-  where
-    into : Mem x (take (n - m) (drop m t.links)) → Mem x (content t) × (x.place ≡ p)
-    into h =
-        let le = starts_le a b in
-        let w = b.within in
-        let size = length-drop m t.links in
-        let (k, lt, e) = take_index (drop m t.links) (n - m) (lnk 0 0 0 0) (omega (arith, t.room, t.few)) h in
-        let is : at t.links (m + k) ≡ x = sym (get_or-drop m t.links k (lnk 0 0 0 0)) ∙ e in
-        let lo = a.over (m + k) (omega arith) (omega arith) in
-        let hi = b.under (m + k) (omega arith) in
-        let z : (at t.links (m + k)).place ≡ x.place = ap (λ (v : Link). v.place) is in
-        (subst (λ v. Mem v (content t)) is (member t (m + k) (omega arith)), omega arith)
-
-    out : Mem x (content t) × (x.place ≡ p) → Mem x (take (n - m) (drop m t.links))
-    out (h, place) =
-        let (k, lt, e) = find t h in
-        let z : (at t.links k).place ≡ x.place = ap (λ (v : Link). v.place) e in
-        let low : m ≤ k = ⊎_elim (λ (y : k < m). absurd (let q = a.under k y in omega arith)) (λ (y : m ≤ k). y) (cases_lt k m) in
-        let high : k < n = ⊎_elim (λ (y : k < n). y) (λ (y : n ≤ k). absurd (let q = b.over k y lt in omega arith)) (cases_lt k n) in
-        let size = length-drop m t.links in
-        let w = b.within in
-        let back : m + (k - m) ≡ k = omega arith in
-        let is : get_or (drop m t.links) (k - m) (lnk 0 0 0 0) ≡ x = get_or-drop m t.links (k - m) (lnk 0 0 0 0) ∙ ap (λ v. at t.links v) back ∙ e in
-        subst (λ v. Mem v (take (n - m) (drop m t.links))) is
-        (mem_take (drop m t.links) (n - m) (k - m) (lnk 0 0 0 0) (omega (arith, t.room, t.few)) (omega arith))
+-- The links of one place stand in one piece.
+pub of_place : (t : Table) (p m n : ℕ) → StartsAt t p m → StartsAt t (p + 1) n → take (n - m) (drop m t.links) ≡ at_place p (content t)
+unfolding at_place
+of_place t p m n a b =
+    let le = starts_le a b in
+    let w = b.within in
+    let size = long t in
+    let all : m + (t.count - m) ≡ t.count = omega arith in
+    let piece : take (n - m) (drop m (content t)) ≡ take (n - m) (drop m t.links) =
+    ap (λ v. take (n - m) (drop m (take v t.links))) (sym all) ∙ ap (λ v. take (n - m) v) (drop-take m (t.count - m) t.links)
+    ∙ take-take (n - m) (t.count - m) (drop m t.links) (omega arith) in
+    sym piece
+    ∙ sym (sieve_piece (λ (l : Link). nat_eq l.place p) (lnk 0 0 0 0) (content t) m (n - m)
+    (λ k lt h. let e = content_at t k (omega arith) in let q = a.under k lt in subst (λ (v : Link). nat_eq v.place p ≡ false) (sym e) (ne_eqb (at t.links k).place p (λ z. omega arith)))
+    (λ k lt h. let e = content_at t (m + k) (omega arith) in
+    let lo = a.over (m + k) (omega arith) (omega arith) in
+    let hi = b.under (m + k) (omega arith) in
+    subst (λ (v : Link). nat_eq v.place p ≡ true) (sym e) (eq-eqb (at t.links (m + k)).place p (omega arith)))
+    (λ k le' h. let e = content_at t k (omega arith) in
+    let q = b.over k (omega arith) (omega arith) in
+    subst (λ (v : Link). nat_eq v.place p ≡ false) (sym e) (ne_eqb (at t.links k).place p (λ z. omega arith))))
 
 -- There is no place from 256 on.
-pub outside : (t : Table) (p : ℕ) → (p < 256 → ⊥) → OfPlace (content t) p []
-outside t p never x = ((λ h. elim h [ ]), λ h. absurd (never (let z = (small_of t x h.0).1 in let q = h.1 in omega arith)))
+pub outside : (t : Table) (p : ℕ) → (p < 256 → ⊥) → at_place p (content t) ≡ []
+unfolding at_place
+outside t p never =
+    let size = long t in
+    sieve_none (λ (l : Link). nat_eq l.place p) (lnk 0 0 0 0) (content t) (λ k lt.
+    let e = content_at t k (omega arith) in
+    let q = (t.small k (omega arith)).1 in
+    subst (λ (v : Link). nat_eq v.place p ≡ false) (sym e) (ne_eqb (at t.links k).place p (λ z. never (omega arith))))
 
 -- The links of a place that may be a byte.
 pub at_any_place : {E W : Type 0} {Q : ℕ → Type 0} (t : Table) (p : ℕ) (r : Result ℕ E) (ys : List Link) → OkIff r (p < 256) p
-    → MatchResult r Q (λ _. W) → ((x : ℕ) → Q x → OfPlace (content t) x ys) → (W → ys ≡ []) → OfPlace (content t) p ys
-at_any_place t p (Ok x) ys a b f g = subst (λ v. OfPlace (content t) v ys) a.1 (f x b)
-at_any_place t p (Err e) ys a b f g = subst (λ v. OfPlace (content t) p v) (sym (g b)) (outside t p a)
+    → MatchResult r Q (λ _. W) → ((x : ℕ) → Q x → ys ≡ at_place x (content t)) → (W → ys ≡ []) → ys ≡ at_place p (content t)
+at_any_place t p (Ok x) ys a b f g = subst (λ v. ys ≡ at_place v (content t)) a.1 (f x b)
+at_any_place t p (Err e) ys a b f g = g b ∙ sym (outside t p a)
 
--- The links of one place, as links of the words.
-pub place_linked : {l : Links} {p : ℕ} {ys : List Link} → OfPlace (links_of l) p ys → (src : Source) (ws : List ℕ) → Holds src ws l → (s b i : ℕ)
-    → Mem (lnk s p b i) ys ↔ Linked src ws s p b i
-place_linked {p = p} f src ws h s b i =
-    ((λ m. h.exact.sound s p b i ((f (lnk s p b i)).0 m).0), λ k. (f (lnk s p b i)).1 (h.exact.whole s p b i k, refl))
+-- The links up to a place stand first.
+pub in_front : (t : Table) (k n : ℕ) → StartsAt t (k + 1) n → up_to k (content t) ≡ take n (content t)
+unfolding up_to
+in_front t k n a =
+    let size = long t in
+    let w = a.within in
+    sieve_front (λ (l : Link). nat_le l.place k) (lnk 0 0 0 0) (content t) n
+    (λ h lt in_list. let e = content_at t h (omega arith) in let q = a.under h lt in
+    subst (λ (v : Link). nat_le v.place k ≡ true) (sym e) (le-leb (at t.links h).place k (omega arith)))
+    (λ h le in_list. let e = content_at t h (omega arith) in let q = a.over h le (omega arith) in
+    subst (λ (v : Link). nat_le v.place k ≡ false) (sym e) (lt-leb (at t.links h).place k (omega arith)))
+
+-- And those up to the last place are all.
+pub in_all : (t : Table) (k : ℕ) → t.place ≤ k → up_to k (content t) ≡ content t
+unfolding up_to
+in_all t k le =
+    let size = long t in
+    sieve_front (λ (l : Link). nat_le l.place k) (lnk 0 0 0 0) (content t) t.count
+    (λ h lt in_list. let e = content_at t h lt in let q = t.high h lt in
+    subst (λ (v : Link). nat_le v.place k ≡ true) (sym e) (le-leb (at t.links h).place k (omega arith)))
+    (λ h le in_list. absurd (omega arith))
+    ∙ take_all t.count (content t) (omega arith)
+
+-- Links stand in the order of their places.
+pub rising : (t : Table) → Rising (content t)
+rising t h k lo hi =
+    let size = long t in
+    let e : (at (content t) h).place ≡ (at t.links h).place = ap (λ (v : Link). v.place) (content_at t h (omega arith)) in
+    let f : (at (content t) k).place ≡ (at t.links k).place = ap (λ (v : Link). v.place) (content_at t k (omega arith)) in
+    let high = t.high h (omega arith) in
+    ⊎_elim
+    (λ (y : h < get_or t.starts (at t.links h).place 0). absurd (let q = t.under (at t.links h).place h high y in omega arith))
+    (λ (y : get_or t.starts (at t.links h).place 0 ≤ h). let q = t.over (at t.links h).place k (high, omega arith, omega arith) in omega arith)
+    (cases_lt h (get_or t.starts (at t.links h).place 0))
 
 -- Tests of links, by each of their numbers.
 pub same_link : (a b : Link) → Decides (nat_eq a.state b.state && (nat_eq a.place b.place && (nat_eq a.below b.below && nat_eq a.below_place b.below_place))) (a ≡ b)

@@ -12,11 +12,11 @@ use Rattle.link_growth.proofs.Members.{mem_left, mem_last, mem_split, take_index
 use Rattle.link_growth.proofs.Grows.{grown_has, grown_trans, makes_more, overfull_more}
 use Rattle.link_growth.proofs.Fires.{before_more, fresh_more, fired_more, fired_less, fired_before}
 use Rattle.links.specs.declared.table.Table.{Table}
-use Rattle.links.specs.Tables.{content, StartsAt, Kept, there, new, Placed, nowhere, somewhere, Turned, Marked, Along, Ahead}
-use Rattle.links.specs.Holding.{OfPlace}
+use Rattle.links.specs.Tables.{content, StartsAt, Kept, there, new, Marked, Along, Ahead}
+use Rattle.links.proofs.Sieves.{OfPlace}
 use Rattle.links.proofs.Lists.{once_last, cell_is}
 use Rattle.links.proofs.Changes.{starts_in}
-use Rattle.links.proofs.Contents.{long, count_more, content_same, content_at, kept_same, kept_more, placed_grown, placed_has, turned_overfull, makes_falls, falls_of}
+use Rattle.links.proofs.Contents.{Placed, nowhere, somewhere, Turned, long, count_more, content_same, content_at, kept_same, kept_more, placed_grown, placed_has, turned_overfull, makes_falls, falls_of}
 
 -- The table t has become u.
 pub along_same : (src : Source) (w : Option ℕ) (t : Table) (limit : ℕ) → Along src w t t limit

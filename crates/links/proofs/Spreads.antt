@@ -14,7 +14,7 @@ use Rattle.links.specs.declared.cells.Cells.{Cells}
 use Rattle.links.specs.Listing.{place_at}
 use Rattle.links.specs.Sets.{cells_of, Roomy, Collected}
 use Rattle.links.specs.Tables.{content, Drawn, Scanned, Bottom}
-use Rattle.links.specs.Holding.{OfPlace}
+use Rattle.links.proofs.Sieves.{OfPlace}
 use Rattle.links.proofs.Members.{each_once}
 use Rattle.links.proofs.Contents.{long, laid_from}
 

@@ -1,24 +1,24 @@
--- What a table of links holds for its user, and what the calls on it promise.
---   links_of l                  the links of the table l
---   place_of l                  its last place
---   Blank l                     l has no links, over no words
---   Holds src ws l              l holds exactly the links of the words ws, each once
---   Same l m                    m has the links and the last place of l
---   Ready src l                 l is blank, or holds the links of some words
---   most limit                  the limit that counts: a table has room for 4,096 links
---   Opened src limit l r m      opening l, answered by r, leaves m
---   Took src ws x limit l m r   taking the word x behind ws, answered by r, leaves m in the place of l
---   OfPlace xs p ys             ys holds those of the links xs that are at place p, and no others
---   Tells b P                   b says whether P
-use Rattle.std.specs.Prelude.{◌≡◌, ℕ, ◌<◌, ◌≤◌, min, Bool, true, ◌↔◌, List, [], ◌∷◌, ◌++◌, length, Ok, Err, Result}
+-- What a table of links holds for its user, and what the calls on it leave, whatever it holds.
+--   links_of l                the links of the table l
+--   place_of l                its last place
+--   Blank l                   l has no links, and its last place is 0
+--   Holds src ws l            l holds exactly the links of the words ws, each once
+--   Same l m                  m has the links and the last place of l
+--   most limit                the limit that counts where this one is given: a table has room for 4,096 links
+--   Back k l m                m has the links of l at the places up to k, and its last place is k, or that of l where that comes before
+--   Opened src n l r m        opening l, where n links are allowed, answered by r, leaves m
+--   Took src x n l r m        taking the word x, where n links are allowed, answered by r, makes m of l
+--   Tells b P                 b says whether P
+use Rattle.std.specs.Prelude.{◌≡◌, ℕ, suc, ◌<◌, ◌≤◌, min, Bool, true, List, [], length, Ok, Err, Some, None, Result}
 use Rattle.parsing.specs.Items.{Source}
 use Rattle.link_growth.specs.declared.Link.{Link}
-use Rattle.link_growth.specs.Entries.{Mem}
-use Rattle.link_growth.specs.Counting.{Exact, Exceeds, Steps}
+use Rattle.link_growth.specs.Counting.{Exact}
+use Rattle.link_growth.specs.Closures.{Closure, Outgrows, StepsFrom}
 use Rattle.links.specs.declared.links.Links.{Links}
 use Rattle.links.specs.declared.fault.TooManyLinks.{TooManyLinks as Many}
 use Rattle.links.specs.declared.fault.TakeFault.{TakeFault}
-use Rattle.links.specs.declared.fault.TakeFault.TheVariants.{TooManyWords, NoTerminal, NoStep, TooManyLinks}
+use Rattle.links.specs.Refusals.{number_of}
+use Rattle.links.specs.Placing.{up_to}
 use Rattle.links.specs.Tables.{content}
 
 abbrev pub links_of : Links → List Link
@@ -39,30 +39,35 @@ pub record Same (l m : Links) : Type 0 where
   pub links : links_of m ≡ links_of l
   pub place : place_of m ≡ place_of l
 
-pub data Ready (src : Source) (l : Links) : Type 0 where
-  blank : Blank l → Ready src l
-  holding : (ws : List ℕ) → Holds src ws l → Ready src l
-
 abbrev pub most : ℕ → ℕ
 most limit = min limit 4096
 
--- The links of no words are within the limit, and held; or they exceed it, and nothing has changed.
-abbrev pub Opened : Source → ℕ → Links → Result (Unit {0}) Many → Links → Type 0
-Opened src limit l (Ok _) m = Holds src [] m × (Exceeds src [] (most limit) → ⊥)
-Opened src limit l (Err _) m = Exceeds src [] (most limit) × Same l m
+pub record Back (k : ℕ) (l m : Links) : Type 0 where
+  pub links : links_of m ≡ up_to k (links_of l)
+  pub place : place_of m ≡ min k (place_of l)
 
--- The first reason that applies, and then nothing has changed; or the links of the words with x, which are within the limit.
-pub data Took (src : Source) (ws : List ℕ) (x limit : ℕ) (l m : Links) : Result (Unit {0}) TakeFault → Type 0 where
-  full : 254 ≤ length ws → Same l m → Took src ws x limit l m (Err TooManyWords)
-  foreign : length ws < 254 → src.grammar.terminals ≤ x → Same l m → Took src ws x limit l m (Err NoTerminal)
-  stuck : length ws < 254 → x < src.grammar.terminals → (Steps src ws x → ⊥) → Same l m → Took src ws x limit l m (Err NoStep)
-  crowded : length ws < 254 → x < src.grammar.terminals → Steps src ws x → Exceeds src (ws ++ x ∷ []) (most limit) → Same l m
-      → Took src ws x limit l m (Err TooManyLinks)
-  taken : length ws < 254 → x < src.grammar.terminals → Steps src ws x → (Exceeds src (ws ++ x ∷ []) (most limit) → ⊥)
-      → Holds src (ws ++ x ∷ []) m → Took src ws x limit l m (Ok tt)
+-- Where nothing is there, what the reductions make of nothing at place 0 is the answer. Otherwise place 0 is kept as it is. In both cases
+-- the links left are within the limit; or they exceed it, and nothing has changed.
+pub data Opened (src : Source) (n : ℕ) (l : Links) : Result (Unit {0}) Many → Links → Type 0 where
+  opened_new : {m : Links} → Blank l → Closure src None 0 [] (links_of m) → length (links_of m) ≤ n → place_of m ≡ 0
+      → Opened src n l (Ok tt) m
+  refused_new : {m : Links} {f : Many} → Blank l → Outgrows src None 0 [] n → Same l m → Opened src n l (Err f) m
+  opened_again : {m : Links} → (Blank l → ⊥) → Back 0 l m → length (links_of m) ≤ n → Opened src n l (Ok tt) m
+  refused_again : {m : Links} {f : Many} → (Blank l → ⊥) → n < length (up_to 0 (links_of l)) → Same l m → Opened src n l (Err f) m
 
-abbrev pub OfPlace : List Link → ℕ → List Link → Type 0
-OfPlace xs p ys = (l : Link) → Mem l ys ↔ (Mem l xs × (l.place ≡ p))
+-- The first reason that applies, told by its number, and then nothing has changed; or the closure of the links at the next place.
+pub data Took (src : Source) (x n : ℕ) (l : Links) : Result (Unit {0}) TakeFault → Links → Type 0 where
+  full : {m : Links} {f : TakeFault} → number_of f ≡ 43 → 254 ≤ place_of l → Same l m → Took src x n l (Err f) m
+  foreign : {m : Links} {f : TakeFault} → number_of f ≡ 44 → place_of l < 254 → src.grammar.terminals ≤ x → Same l m
+      → Took src x n l (Err f) m
+  stuck : {m : Links} {f : TakeFault} → number_of f ≡ 45 → place_of l < 254 → x < src.grammar.terminals
+      → (StepsFrom src (links_of l) (place_of l) x → ⊥) → Same l m → Took src x n l (Err f) m
+  crowded : {m : Links} {f : TakeFault} → number_of f ≡ 46 → place_of l < 254 → x < src.grammar.terminals
+      → StepsFrom src (links_of l) (place_of l) x → Outgrows src (Some x) (suc (place_of l)) (links_of l) n → Same l m
+      → Took src x n l (Err f) m
+  taken : {m : Links} → place_of l < 254 → x < src.grammar.terminals → StepsFrom src (links_of l) (place_of l) x
+      → Closure src (Some x) (suc (place_of l)) (links_of l) (links_of m) → length (links_of m) ≤ n
+      → place_of m ≡ suc (place_of l) → Took src x n l (Ok tt) m
 
 pub record Tells (b : Bool) (P : Type 0) : Type 0 where
   pub told : b ≡ true → P

@@ -4,13 +4,10 @@
 --   Kept t u limit               from t to u the place and the starts stay, and where links were added they are within the limit
 --   Added xs ys l                l is in ys now: it was in xs, or it is new and stands behind xs
 --   Refused xs ys l limit        l is new, there was no room for it, and ys is xs
---   Placed src j x b i xs ys     the link that b at i has by the symbol x is put behind xs, unless there is none or it is there
---   Turned src j x b i n xs ys   it is new, there is no room for it, and ys is xs
 --   Drawn xs cs                  each cell of cs is one that a link of xs leads down to
 --   Scanned xs cs p old new      new is old with what one link of xs leads down to from the cells cs at place p, and perhaps from others of cs
 --   Bottom src j r cs            the cells cs are the first state at place 0, if that is j and the rule r is done in it
 --   Marked src x j xs cs ds      the cells ds are those of cs that have their link by the symbol x at place j in xs
---   StepsBy src j x c r          r is the link to the place j that the cell c has by the symbol x, or none
 --   FirstStepped src x p ys      ys has the link at p that the word x makes from the first state, if that is live below p
 --   LinksStepped src x p xs ys   ys has the links at p that the word x makes from the states of the links of xs below p
 --   Along src w t u limit        from t to u links that the rules make at the last place were added within the limit, and nothing else changed
@@ -18,11 +15,11 @@
 --   Ahead src t n                a round may look from the link n on: it is of the last place, and what the links before it make is there
 --   Begun t u                    u is t with one place more, that has no links yet
 --   Cut k t u                    u is t with the links of the places up to k alone
-use Rattle.std.specs.Prelude.{◌≡◌, ℕ, ◌+◌, ◌-◌, ◌<◌, ◌≤◌, true, ◌⊎◌, List, [], ◌∷◌, ◌++◌, map, length, take, Some, None, Option, Result, MatchResult, slice_index, slice_index_or}
+use Rattle.std.specs.Prelude.{◌≡◌, ℕ, ◌+◌, ◌-◌, ◌<◌, ◌≤◌, true, ◌⊎◌, List, [], ◌∷◌, ◌++◌, map, length, take, Some, Option, Result, MatchResult, slice_index, slice_index_or}
 use Rattle.parsing.specs.Items.{Source}
 use Rattle.link_growth.specs.declared.Link.{Link}
 use Rattle.link_growth.specs.declared.Cell.{Cell}
-use Rattle.link_growth.specs.Entries.{lnk, at, Mem, Has, cell, upper, lower}
+use Rattle.link_growth.specs.Entries.{at, Mem, Has, cell, upper, lower}
 use Rattle.link_growth.specs.Growth.{Grown, Overfull, Fresh, Before}
 use Rattle.links.specs.declared.fault.TooManyLinks.{TooManyLinks}
 use Rattle.links.specs.declared.table.Table.{Table}
@@ -50,15 +47,6 @@ pub record Refused (xs ys : List Link) (l : Link) (limit : ℕ) : Type 0 where
   pub full : limit ≤ length xs
   pub kept : ys ≡ xs
 
-pub data Placed (src : Source) (j x b i : ℕ) (xs ys : List Link) : Type 0 where
-  nowhere : src.next b x ≡ None → ys ≡ xs → Placed src j x b i xs ys
-  somewhere : (s : ℕ) → src.next b x ≡ Some s → Added xs ys (lnk s j b i) → Placed src j x b i xs ys
-
-pub record Turned (src : Source) (j x b i limit : ℕ) (xs ys : List Link) : Type 0 where
-  pub state : ℕ
-  pub steps : src.next b x ≡ Some state
-  pub refused : Refused xs ys (lnk state j b i) limit
-
 abbrev pub Drawn : List Link → List Cell → Type 0
 Drawn xs cs = (c : Cell) → Mem c cs → Mem c (map lower xs)
 
@@ -74,10 +62,6 @@ pub record Bottom (src : Source) (j r : ℕ) (cs : List Cell) : Type 0 where
 pub record Marked (src : Source) (x j : ℕ) (xs : List Link) (cs ds : List Cell) : Type 0 where
   pub whole : (b i s : ℕ) → Mem (cell b i) cs → src.next b x ≡ Some s → Has xs s j b i → Mem (cell b i) ds
   pub sound : (c : Cell) → Mem c ds → (s : ℕ) × (src.next c.state x ≡ Some s) × Has xs s j c.state c.place
-
-abbrev pub StepsBy : Source → ℕ → ℕ → Cell → Option Link → Type 0
-StepsBy src j x c None = src.next c.state x ≡ None
-StepsBy src j x c (Some l) = (s : ℕ) × (src.next c.state x ≡ Some s) × (l ≡ lnk s j c.state c.place)
 
 abbrev pub FirstStepped : Source → ℕ → ℕ → List Link → Type 0
 FirstStepped src x p ys = (s : ℕ) → p ≡ 1 → src.next src.first x ≡ Some s → Has ys s p src.first 0

@@ -1,14 +1,12 @@
 //! Adding links to a table at its last place.
-ghost use Rattle.std.specs.Prelude.{◌≡◌, ℕ, ◌+◌, ◌≤◌, true, false, [], drop, Some, MatchResult};
-ghost use Rattle.link_growth.specs.Entries.{Mem, Has};
-ghost use Rattle.links.specs.Holding.{OfPlace};
-ghost use Rattle.links.specs.Tables.{content, Kept, Added, Refused, Placed, Turned, StartsAt};
+ghost use Rattle.std.specs.Prelude.{◌≡◌, ◌+◌, ◌≤◌, true, false, [], drop, MatchResult};
+ghost use Rattle.link_growth.specs.Entries.{Mem};
+ghost use Rattle.links.specs.Placing.{at_place};
+ghost use Rattle.links.specs.Tables.{content, Kept, Added, Refused, StartsAt};
 
 use crate::fault::TooManyLinks;
-use crate::over::Symbol;
 use crate::table::Table;
-use link_growth::{Cell, Link};
-use states::StateSource;
+use link_growth::Link;
 
 impl Table {
     /// A table with no links, at place 0.
@@ -47,7 +45,7 @@ impl Table {
 
     /// The links of a place; none past the last place.
     pub(crate) fn of_place(&self, place: u8) -> &[Link]
-        ensures { OfPlace (content self.now) place result.now }
+        ensures { result.now ≡ at_place place (content self.now) }
     {
         let start = self.start_of(place);
         let end = self.end_of(place);
@@ -70,13 +68,15 @@ impl Table {
     }
 
     /// Adds a link of the last place that is not there.
-    fn push(&mut self, link: Link, limit: usize) -> Result<(), TooManyLinks>
+    pub(crate) fn push(&mut self, link: Link, limit: usize) -> Result<(), TooManyLinks>
         requires bound { limit ≤ 4096 }
         requires here { link.place ≡ self.old.place }
         requires falls { link.below_place ≤ self.old.place }
         requires fresh { Mem link (content self.old) → ⊥ }
         ensures kept { Kept self.old self.new limit }
-        ensures cases { MatchResult result (λ _. Added (content self.old) (content self.new) link) (λ _. Refused (content self.old) (content self.new) link limit) }
+        ensures cases { let xs = content self.old in
+            let ys = content self.new in
+            MatchResult result (λ _. Added xs ys link) (λ _. Refused xs ys link limit) }
     {
         let n = self.count;
         if n >= limit {
@@ -87,39 +87,19 @@ impl Table {
         Ok(())
     }
 
-    /// Adds the link by the symbol from a cell, unless there is no such step or it is there.
-    pub(crate) fn put<S: StateSource>(
-        &mut self,
-        symbol: &Symbol<'_, S>,
-        below: Cell,
-    ) -> Result<(), TooManyLinks>
-        requires falls { (s : ℕ) → (S.meaning symbol.now.over.now.source.now).next below.state symbol.now.x ≡ Some s → below.place ≤ self.old.place }
-        ensures kept { Kept self.old self.new symbol.now.over.now.limit }
-        ensures cases { MatchResult result (λ _. Placed (S.meaning symbol.now.over.now.source.now) self.old.place symbol.now.x below.state below.place (content self.old) (content self.new)) (λ _. Turned (S.meaning symbol.now.over.now.source.now) self.old.place symbol.now.x below.state below.place symbol.now.over.now.limit (content self.old) (content self.new)) }
+    /// Adds a link of the last place, unless it is there.
+    pub(crate) fn put(&mut self, link: Link, limit: usize) -> Result<(), TooManyLinks>
+        requires bound { limit ≤ 4096 }
+        requires here { link.place ≡ self.old.place }
+        requires falls { link.below_place ≤ self.old.place }
+        ensures kept { Kept self.old self.new limit }
+        ensures cases { let xs = content self.old in
+            let ys = content self.new in
+            MatchResult result (λ _. Added xs ys link) (λ _. Refused xs ys link limit) }
     {
-        let Some(link) = symbol.link(below, self.place) else {
-            return Ok(());
-        };
         if self.has(link) {
             return Ok(());
         }
-        self.push(link, symbol.over.limit)
-    }
-
-    /// Adds the link by the symbol from a cell, unless there is no such step, where the link is not there.
-    pub(crate) fn put_new<S: StateSource>(
-        &mut self,
-        symbol: &Symbol<'_, S>,
-        below: Cell,
-    ) -> Result<(), TooManyLinks>
-        requires falls { (s : ℕ) → (S.meaning symbol.now.over.now.source.now).next below.state symbol.now.x ≡ Some s → below.place ≤ self.old.place }
-        requires fresh { (s : ℕ) → (S.meaning symbol.now.over.now.source.now).next below.state symbol.now.x ≡ Some s → Has (content self.old) s self.old.place below.state below.place → ⊥ }
-        ensures kept { Kept self.old self.new symbol.now.over.now.limit }
-        ensures cases { MatchResult result (λ _. Placed (S.meaning symbol.now.over.now.source.now) self.old.place symbol.now.x below.state below.place (content self.old) (content self.new)) (λ _. Turned (S.meaning symbol.now.over.now.source.now) self.old.place symbol.now.x below.state below.place symbol.now.over.now.limit (content self.old) (content self.new)) }
-    {
-        let Some(link) = symbol.link(below, self.place) else {
-            return Ok(());
-        };
-        self.push(link, symbol.over.limit)
+        self.push(link, limit)
     }
 }

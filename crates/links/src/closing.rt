@@ -31,8 +31,14 @@ impl Links {
         symbol: &Symbol<'_, S>,
         steps: u8,
     ) -> Result<(), TooManyLinks>
-        requires { Ends (S.meaning symbol.now.over.now.source.now) symbol.now.x steps (cells_of self.old.here) (content self.old.table) (Makes (S.meaning symbol.now.over.now.source.now) None self.old.table.place (content self.old.table)) }
-        ensures { Making (S.meaning symbol.now.over.now.source.now) None self.old.table self.new.table symbol.now.over.now.limit result (Ends (S.meaning symbol.now.over.now.source.now) symbol.now.x steps (cells_of self.old.here) (content self.old.table) (λ s b i. Has (content self.new.table) s self.old.table.place b i)) }
+        requires { let src = S.meaning symbol.now.over.now.source.now in
+            let t = self.old.table in
+            Ends src symbol.now.x steps (cells_of self.old.here) (content t) (Makes src None t.place (content t)) }
+        ensures { let src = S.meaning symbol.now.over.now.source.now in
+            let t = self.old.table in
+            let u = self.new.table in
+            Making src None t u symbol.now.over.now.limit result
+            (Ends src symbol.now.x steps (cells_of self.old.here) (content t) (λ s b i. Has (content u) s t.place b i)) }
     {
         for _ in 0..steps {
             self.spread();
@@ -49,7 +55,10 @@ impl Links {
     ) -> Result<(), TooManyLinks>
         requires rule { rule < rule_count (S.meaning over.now.source.now).grammar }
         requires ahead { Ahead (S.meaning over.now.source.now) self.old.table from }
-        ensures { Making (S.meaning over.now.source.now) None self.old.table self.new.table over.now.limit result (Fired (S.meaning over.now.source.now) self.old.table.place rule (content self.old.table) (content self.new.table)) }
+        ensures { let src = S.meaning over.now.source.now in
+            let t = self.old.table in
+            let u = self.new.table in
+            Making src None t u over.now.limit result (Fired src t.place rule (content t) (content u)) }
     {
         let source = over.source;
         let x = source.left(usize::from(rule));
@@ -72,7 +81,11 @@ impl Links {
     /// The reductions of all rules.
     fn round<S: StateSource>(&mut self, over: &Over<'_, S>, from: usize) -> Result<(), TooManyLinks>
         requires { Ahead (S.meaning over.now.source.now) self.old.table from }
-        ensures { Making (S.meaning over.now.source.now) None self.old.table self.new.table over.now.limit result ((r : ℕ) → r < rule_count (S.meaning over.now.source.now).grammar → Fired (S.meaning over.now.source.now) self.old.table.place r (content self.old.table) (content self.new.table)) }
+        ensures { let src = S.meaning over.now.source.now in
+            let t = self.old.table in
+            let u = self.new.table in
+            Making src None t u over.now.limit result
+            ((r : ℕ) → r < rule_count src.grammar → Fired src t.place r (content t) (content u)) }
     {
         for rule in 0..over.source.rules() {
             self.reduce(over, rule, from)?;
@@ -83,7 +96,10 @@ impl Links {
     /// Rounds until one adds nothing. Where no link stays at its place, a chain reaches the last place by its first link alone, and a round
     /// begins at the links that the round before has added.
     pub(crate) fn close<S: StateSource>(&mut self, over: &Over<'_, S>) -> Result<(), TooManyLinks>
-        ensures { Making (S.meaning over.now.source.now) None self.old.table self.new.table over.now.limit result (Shut (S.meaning over.now.source.now) self.old.table.place (content self.new.table)) }
+        ensures { let src = S.meaning over.now.source.now in
+            let t = self.old.table in
+            let u = self.new.table in
+            Making src None t u over.now.limit result (Shut src t.place (content u)) }
     {
         let start = self.table.start_of(self.table.place);
         let mut from = start;

@@ -11,6 +11,7 @@ use crate::links::Links;
 use crate::over::Symbol;
 use crate::sets::lower_of;
 use crate::table::Table;
+use link_growth::Link;
 use states::StateSource;
 
 // The fields and not `Links`, here and in `scan`: two of them are lent while the third changes.
@@ -21,7 +22,9 @@ fn mark_linked<S: StateSource>(
     here: &Cells,
     there: &mut Cells,
 )
-    ensures { Marked (S.meaning symbol.now.over.now.source.now) symbol.now.x table.now.place (content table.now) (cells_of here.now) (cells_of there.new) }
+    ensures { let src = S.meaning symbol.now.over.now.source.now in
+        let t = table.now in
+        Marked src symbol.now.x t.place (content t) (cells_of here.now) (cells_of there.new) }
 {
     there.clear();
     let source = symbol.over.source;
@@ -38,17 +41,34 @@ impl Links {
         &mut self,
         symbol: &Symbol<'_, S>,
     ) -> Result<(), TooManyLinks>
-        requires { Ends (S.meaning symbol.now.over.now.source.now) symbol.now.x 0 (cells_of self.old.here) (content self.old.table) (Makes (S.meaning symbol.now.over.now.source.now) None self.old.table.place (content self.old.table)) }
-        ensures { Making (S.meaning symbol.now.over.now.source.now) None self.old.table self.new.table symbol.now.over.now.limit result (Ends (S.meaning symbol.now.over.now.source.now) symbol.now.x 0 (cells_of self.old.here) (content self.old.table) (λ s b i. Has (content self.new.table) s self.old.table.place b i)) }
+        requires { let src = S.meaning symbol.now.over.now.source.now in
+            let t = self.old.table in
+            Ends src symbol.now.x 0 (cells_of self.old.here) (content t) (Makes src None t.place (content t)) }
+        ensures { let src = S.meaning symbol.now.over.now.source.now in
+            let t = self.old.table in
+            let u = self.new.table in
+            Making src None t u symbol.now.over.now.limit result
+            (Ends src symbol.now.x 0 (cells_of self.old.here) (content t) (λ s b i. Has (content u) s t.place b i)) }
     {
         if self.here.list.is_empty() {
             return Ok(());
         }
         mark_linked(symbol, &self.table, &self.here, &mut self.there);
+        let over = symbol.over;
         while let Some(c) = self.here.pop() {
-            if !self.there.has(c) {
-                self.table.put_new(symbol, c)?;
+            if self.there.has(c) {
+                continue;
             }
+            let Some(state) = over.source.next(c.state, symbol.x) else {
+                continue;
+            };
+            let link = Link {
+                state,
+                place: self.table.place,
+                below: c.state,
+                below_place: c.place,
+            };
+            self.table.push(link, over.limit)?;
         }
         Ok(())
     }

@@ -1,7 +1,5 @@
 //! A table of links as it begins, and as it is cut back.
-ghost use Rattle.std.specs.Prelude.{ℕ, List, take};
-ghost use Rattle.parsing.specs.Items.{Source};
-ghost use Rattle.links.specs.Holding.{Blank, Holds, Ready, Opened};
+ghost use Rattle.links.specs.Holding.{Blank, most, Back, Opened};
 
 use crate::cells::Cells;
 use crate::fault::TooManyLinks;
@@ -34,9 +32,9 @@ impl Links {
         closed
     }
 
-    /// The links of no words. A table that is blank is closed at place 0; one that holds the links of some words is cut back to it.
+    /// The links of no words. A table that is blank is closed at place 0; another is cut back to the links that it has there.
     pub fn open<S: StateSource>(&mut self, source: &S, limit: usize) -> Result<(), TooManyLinks>
-        ensures { Ready (S.meaning source.now) self.old → Opened (S.meaning source.now) limit self.old result self.new }
+        ensures { Opened (S.meaning source.now) (most limit) self.old result self.new }
     {
         let over = Over::new(source, limit);
         if self.table.place == 0 && self.table.count == 0 {
@@ -49,9 +47,9 @@ impl Links {
         Ok(())
     }
 
-    /// The links of the first k words, or of all where there are no more.
+    /// Goes back to the first k words, or to all where there are no more.
     pub fn back(&mut self, k: usize)
-        ensures { (src : Source) (ws : List ℕ) → Holds src ws self.old → Holds src (take k ws) self.new }
+        ensures { Back k self.old self.new }
     {
         if k < usize::from(self.table.place) {
             self.table.cut(k as u8);

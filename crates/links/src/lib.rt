@@ -16,6 +16,8 @@ mod sets;
 mod shifting;
 mod table;
 mod taking;
+mod wordwise;
 
 pub use fault::{TakeFault, TooManyLinks};
 pub use links::Links;
+pub use wordwise::links_are_those_of_the_words;

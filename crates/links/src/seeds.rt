@@ -23,7 +23,9 @@ pub(crate) struct Seeds<'a, S: StateSource> {
 impl<S: StateSource> Seeds<'_, S> {
     /// Makes `here` the cells below the links in whose states the rule is done.
     pub(crate) fn below(&self, here: &mut Cells)
-        ensures { Picked (λ l. (S.meaning self.now.source.now).done l.state self.now.rule ≡ true) lower (drop self.now.from (content self.now.table.now)) [] (cells_of here.new) }
+        ensures { let src = S.meaning self.now.source.now in
+            let late = drop self.now.from (content self.now.table.now) in
+            Picked (λ l. src.done l.state self.now.rule ≡ true) lower late [] (cells_of here.new) }
     {
         here.clear();
         here.collect(self.table.since(self.from), |link| {
@@ -54,7 +56,9 @@ impl<S: StateSource> Seeds<'_, S> {
     pub(crate) fn tops(&self, here: &mut Cells)
         requires since { slice_index self.now.table.now.starts self.now.table.now.place ≤ self.now.from }
         requires until { self.now.from ≤ self.now.table.now.count }
-        ensures { Tops (S.meaning self.now.source.now) self.now.table.now.place self.now.rule self.now.from (content self.now.table.now) (cells_of here.new) }
+        ensures { let src = S.meaning self.now.source.now in
+            let t = self.now.table.now in
+            Tops src t.place self.now.rule self.now.from (content t) (cells_of here.new) }
     {
         self.first(here);
         here.collect(self.table.since(self.from), |link| {

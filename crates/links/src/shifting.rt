@@ -1,7 +1,6 @@
 //! Going from place to place, and the word rule.
-ghost use Rattle.std.specs.Prelude.{◌≡◌, ℕ, ◌-◌, ◌<◌, ◌≤◌, true, false, ◌≢◌, [], Some, None};
-ghost use Rattle.parsing.specs.Links.{LiveOf};
-ghost use Rattle.link_growth.specs.Entries.{Has};
+ghost use Rattle.std.specs.Prelude.{◌≡◌, ◌-◌, ◌<◌, ◌≤◌, true, false, [], Some};
+ghost use Rattle.link_growth.specs.Closures.{StepsFrom};
 ghost use Rattle.link_growth.specs.Growth.{Stepped, Shut};
 ghost use Rattle.links.specs.Tables.{content, Making, FirstStepped, LinksStepped, Begun, Cut};
 
@@ -9,7 +8,7 @@ use crate::fault::TooManyLinks;
 use crate::links::Links;
 use crate::over::Word;
 use crate::table::Table;
-use link_growth::Cell;
+use link_growth::Link;
 use states::StateSource;
 
 impl Table {
@@ -43,8 +42,10 @@ impl Table {
 
     /// Whether some state that is live at the last place has a step by the word.
     pub(crate) fn steps<S: StateSource>(&self, word: &Word<'_, S>) -> bool
-        ensures some { result ≡ true → (b : ℕ) × LiveOf (S.meaning word.now.symbol.over.now.source.now) (Has (content self.now)) b self.now.place × ((S.meaning word.now.symbol.over.now.source.now).next b word.now.symbol.x ≢ None) }
-        ensures none { result ≡ false → (b : ℕ) → LiveOf (S.meaning word.now.symbol.over.now.source.now) (Has (content self.now)) b self.now.place → (S.meaning word.now.symbol.over.now.source.now).next b word.now.symbol.x ≡ None }
+        ensures some { let src = S.meaning word.now.symbol.over.now.source.now in
+            result ≡ true → StepsFrom src (content self.now) self.now.place word.now.symbol.x }
+        ensures none { let src = S.meaning word.now.symbol.over.now.source.now in
+            result ≡ false → StepsFrom src (content self.now) self.now.place word.now.symbol.x → ⊥ }
     {
         let source = word.symbol.over.source;
         let x = word.symbol.x;
@@ -58,33 +59,54 @@ impl Table {
 
     /// The word rule from the first state, where it is live at the place below the last.
     fn shift_first<S: StateSource>(&mut self, word: &Word<'_, S>) -> Result<(), TooManyLinks>
-        ensures { Making (S.meaning word.now.symbol.over.now.source.now) (Some word.now.symbol.x) self.old self.new word.now.symbol.over.now.limit result (FirstStepped (S.meaning word.now.symbol.over.now.source.now) word.now.symbol.x self.old.place (content self.new)) }
+        ensures { let src = S.meaning word.now.symbol.over.now.source.now in
+            let x = word.now.symbol.x in
+            let limit = word.now.symbol.over.now.limit in
+            Making src (Some x) self.old self.new limit result (FirstStepped src x self.old.place (content self.new)) }
     {
         if self.place != 1 {
             return Ok(());
         }
-        let first = Cell {
-            state: word.symbol.over.source.first(),
-            place: 0,
+        let over = word.symbol.over;
+        let first = over.source.first();
+        let Some(state) = over.source.next(first, word.symbol.x) else {
+            return Ok(());
         };
-        self.put(&word.symbol, first)
+        let link = Link {
+            state,
+            place: self.place,
+            below: first,
+            below_place: 0,
+        };
+        self.put(link, over.limit)
     }
 
     /// The word rule from the states of the links of the place below the last.
     fn shift_links<S: StateSource>(&mut self, word: &Word<'_, S>) -> Result<(), TooManyLinks>
         requires { 0 < self.old.place }
-        ensures { Making (S.meaning word.now.symbol.over.now.source.now) (Some word.now.symbol.x) self.old self.new word.now.symbol.over.now.limit result (LinksStepped (S.meaning word.now.symbol.over.now.source.now) word.now.symbol.x self.old.place (content self.old) (content self.new)) }
+        ensures { let src = S.meaning word.now.symbol.over.now.source.now in
+            let x = word.now.symbol.x in
+            let limit = word.now.symbol.over.now.limit in
+            Making src (Some x) self.old self.new limit result
+            (LinksStepped src x self.old.place (content self.old) (content self.new)) }
     {
-        let below = self.place - 1;
-        let start = self.start_of(below);
+        let over = word.symbol.over;
+        let below_place = self.place - 1;
+        let start = self.start_of(below_place);
         let end = self.start_of(self.place);
         // By index: a link that is added changes the table, from which no slice can be lent meanwhile.
         for k in start..end {
-            let cell = Cell {
-                state: self.links[k].state,
-                place: below,
+            let below = self.links[k].state;
+            let Some(state) = over.source.next(below, word.symbol.x) else {
+                continue;
             };
-            self.put(&word.symbol, cell)?;
+            let link = Link {
+                state,
+                place: self.place,
+                below,
+                below_place,
+            };
+            self.put(link, over.limit)?;
         }
         Ok(())
     }
@@ -94,7 +116,12 @@ impl Links {
     /// The word rule, from all states that are live at the place below the last, and then the reductions.
     pub(crate) fn extend<S: StateSource>(&mut self, word: &Word<'_, S>) -> Result<(), TooManyLinks>
         requires { 0 < self.old.table.place }
-        ensures { Making (S.meaning word.now.symbol.over.now.source.now) (Some word.now.symbol.x) self.old.table self.new.table word.now.symbol.over.now.limit result (Stepped (S.meaning word.now.symbol.over.now.source.now) word.now.symbol.x self.old.table.place (self.old.table.place - 1) (content self.old.table) (content self.new.table) × Shut (S.meaning word.now.symbol.over.now.source.now) self.old.table.place (content self.new.table)) }
+        ensures { let src = S.meaning word.now.symbol.over.now.source.now in
+            let x = word.now.symbol.x in
+            let t = self.old.table in
+            let u = self.new.table in
+            Making src (Some x) t u word.now.symbol.over.now.limit result
+            (Stepped src x t.place (t.place - 1) (content t) (content u) × Shut src t.place (content u)) }
     {
         self.table.shift_first(word)?;
         self.table.shift_links(word)?;

@@ -1,6 +1,5 @@
 //! Taking one word more.
-ghost use Rattle.std.specs.Prelude.{ℕ, List};
-ghost use Rattle.links.specs.Holding.{Holds, Took};
+ghost use Rattle.links.specs.Holding.{most, Took};
 
 use crate::fault::TakeFault;
 use crate::links::Links;
@@ -15,7 +14,7 @@ impl Links {
         terminal: usize,
         limit: usize,
     ) -> Result<(), TakeFault>
-        ensures { (ws : List ℕ) → Holds (S.meaning source.now) ws self.old → Took (S.meaning source.now) ws terminal limit self.old self.new result }
+        ensures { Took (S.meaning source.now) terminal (most limit) self.old result self.new }
     {
         let place = self.table.place;
         if place >= 254 {

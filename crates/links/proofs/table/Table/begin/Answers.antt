@@ -13,6 +13,7 @@ invariant_of-self c =
       slots = length-set t.starts q t.count ∙ t.slots;
       few = t.few;
       small = t.small;
+      once = t.once;
       falls = t.falls;
       high = λ k lt. omega (arith, t.high k lt);
       within = begin_within t p q refl c.from.ensures slot;

@@ -10,6 +10,7 @@ invariant_of-self c =
       slots = t.slots;
       few = omega arith;
       small = λ k lt. absurd (omega arith);
+      once = λ h k lo hi. absurd (omega arith);
       falls = λ k lt. absurd (omega arith);
       high = λ k lt. absurd (omega arith);
       within = no_start t;

@@ -13,6 +13,7 @@ invariant_of-self c =
       slots = t.slots;
       few = omega (arith, t.few);
       small = λ k lt. t.small k (omega arith);
+      once = λ h k lo hi. t.once h k lo (omega arith);
       falls = λ k lt. t.falls k (omega arith);
       high = λ k lt. omega (arith, a.under k lt);
       within = cut_within t c.args.k n c.requires a;

@@ -2,7 +2,7 @@ use Rattle.std.proofs.Common.{◌<◌, ◌≤◌, length, ◌∙◌, arith, leng
 use Rattle.link_growth.specs.declared.Link.{Link}
 use Rattle.link_growth.specs.Entries.{lnk, Small}
 use Rattle.links.proofs.Lists.{below_set}
-use Rattle.links.proofs.Changes.{add_under, add_over}
+use Rattle.links.proofs.Changes.{add_under, add_over, add_once}
 use Rattle.links.proofs.table.Table.push.Goals as goal
 
 pub invariant_of-self : goal.invariant_of-self
@@ -17,6 +17,7 @@ invariant_of-self c =
       slots = t.slots;
       few = omega (arith, c.if-n-limit.false, c.requires.bound);
       small = below_set Small blank t.links t.count l room t.small tiny;
+      once = add_once t l room c.requires.here c.requires.fresh;
       falls = below_set (λ (v : Link). v.below_place ≤ v.place) blank t.links t.count l room t.falls (omega (arith, c.requires.here, c.requires.falls));
       high = below_set (λ (v : Link). v.place ≤ t.place) blank t.links t.count l room t.high (omega (arith, c.requires.here));
       within = λ i le. omega (arith, t.within i le);
