@@ -3,3 +3,14 @@ pub mod Records
 pub mod Fitting
 pub mod Answering
 pub mod Mapped
+pub mod Grammars
+pub mod Rows
+pub mod Betweens
+pub mod Placing
+pub mod Visits
+pub mod Wholes
+pub mod Listing
+pub mod Ordering
+pub mod Standing
+pub mod Sweeping
+pub mod Cells

@@ -7,9 +7,9 @@ use Rattle.parsing.specs.Grammar.{Grammar, WellFormed, rule_count, lhs, rhs}
 use Rattle.spans.specs.Spans.{part_fits, Met}
 use Rattle.records.specs.declared.node.Node.{Node}
 use Rattle.records.specs.declared.alternative.Alternative.{Alternative}
-use Rattle.parts.specs.Parts.{Of}
-use Rattle.sweep.specs.Finding.{node_at, node_of}
-use Rattle.sweep.specs.Sweeps.{MetNode, Exactly, OfSome}
+use Rattle.forest.specs.Parts.{Of}
+use Rattle.forest.specs.Finding.{node_at, node_of}
+use Rattle.forest.specs.Sweeps.{MetNode, Exactly, OfSome}
 use Rattle.forest.specs.Forests.{recorded, MetRecord}
 
 pub padded_length : (cs : List ℕ) → length cs ≤ 8 → length (cs ++ replicate (8 - length cs) 255) ≡ 8

@@ -3,7 +3,7 @@ use Rattle.std.proofs.Common.{◌≡◌, ℕ, ◌<◌, ◌≤◌, List, [], leng
 use Rattle.std.proofs.lemmas.List.{get_or_default}
 use Rattle.std.proofs.lemmas.Bool.{cases_order}
 use Rattle.table_format.proofs.Pigeons.{pigeons}
-use Rattle.register.specs.Registers.{Has, Apart, More}
+use Rattle.register.specs.Lists.{Has, Apart, More}
 use Rattle.register.proofs.Growing.{has_none}
 
 module _ {X : Type 0} (d : X) where

@@ -1,2 +1,9 @@
 pub mod Forests
 pub mod Refusals
+pub mod Marks
+pub mod Parts
+pub mod Finding
+pub mod Sweeps
+pub mod Tables
+pub mod TableLaws
+pub mod Statements

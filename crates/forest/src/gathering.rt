@@ -1,16 +1,18 @@
 //! Gathering a forest.
-ghost use Rattle.std.specs.Prelude.{◌≤◌, length};
-ghost use Rattle.parsing.specs.Links.{Linked};
-ghost use Rattle.forest.specs.Forests.{Holds, Gathers, Writes};
+ghost use Rattle.std.specs.Prelude.{◌≤◌};
+ghost use Rattle.forest.specs.Sweeps.{MetNode};
+ghost use Rattle.forest.specs.Forests.{MetRecord, Writes, Gathers};
 
+use crate::alternatives::put_all_alternatives;
 use crate::fault::GatherFault;
+use crate::fits::Fits;
+use crate::nodes::put_all_nodes;
+use crate::span_table::SpanTable;
+use arrayvec::ArrayVec;
 use link_growth::Link;
-use parts::Fits;
 use records::{Alternative, Node};
 use register::Register;
-use span_table::SpanTable;
 use states::StateSource;
-use sweep::{put_all_alternatives, put_all_nodes};
 
 /// How many records a gathering wrote.
 #[derive(Clone, Copy, PartialEq, Eq, Debug)]
@@ -27,7 +29,8 @@ fn write<S: StateSource, F: Fits>(
     nodes: &mut [Node],
     alternatives: &mut [Alternative],
 ) -> Result<Counts, GatherFault>
-    ensures { Writes (S.StateSource.meaning source.now).grammar (F.Fits.says spans.now) last nodes.old alternatives.old nodes.new alternatives.new result }
+    requires { last ≤ 254 }
+    ensures { let g = (S.meaning source.now).grammar in let fits = F.says spans.now in Writes (MetNode g fits last) (MetRecord g fits last) nodes.old alternatives.old nodes.new alternatives.new result }
 {
     let mut node_register = Register::new(nodes);
     put_all_nodes(source, spans, last, &mut node_register).map_err(|_| GatherFault::NodesShort)?;
@@ -48,18 +51,20 @@ fn write<S: StateSource, F: Fits>(
     Ok(counts)
 }
 
-/// Writes the nodes and the alternatives of all derivations of the words into the two lists, each once and in order, and blank records
-/// into the slots past them. The links are those of the words. Where a list is too short, both are filled with blank records.
+/// Writes the nodes and the alternatives that are met over the words and the links from the start symbol down, each once and in order,
+/// and blank records past them. Where a list is too short, both are filled with blank records. Over the links of the words these are the
+/// nodes and the alternatives of all derivations of the words.
 pub fn gather<S: StateSource>(
     source: &S,
-    words: &[u8],
+    words: &ArrayVec<u8, 254>,
     links: &[Link],
     nodes: &mut [Node],
     alternatives: &mut [Alternative],
 ) -> Result<Counts, GatherFault>
-    ensures { length words.now ≤ 254 → Holds links.now (Linked (S.StateSource.meaning source.now) words.now) → Gathers (S.StateSource.meaning source.now).grammar words.now nodes.old alternatives.old nodes.new alternatives.new result }
+    ensures { Gathers (S.meaning source.now) words.now.items links.now nodes.old alternatives.old nodes.new alternatives.new result }
 {
-    let last = u8::try_from(words.len()).map_err(|_| GatherFault::NoSentence)?;
+    let words = words.as_slice();
+    let last = words.len() as u8;
     let mut spans = SpanTable::empty();
     spans.add_words(source, words);
     spans.add_links(source, links);

@@ -1,4 +1,5 @@
 //! What a gathering answers and leaves in its lists.
+use arrayvec::ArrayVec;
 use built_states::BuiltStates;
 use forest::{Counts, GatherFault, gather};
 use grammar::Grammar;
@@ -49,9 +50,10 @@ pub fn gathered(
     let mut alternatives = [old_alternative(); ROOM];
     let (n, m) = room;
     assert!(rt; n <= ROOM && m <= ROOM);
+    let kept: ArrayVec<u8, 254> = ArrayVec::try_from(words)?;
     let result = gather(
         &source,
-        words,
+        &kept,
         links,
         &mut nodes[0..n],
         &mut alternatives[0..m],

@@ -186,6 +186,20 @@ fn no_sentence(rt: HostRuntime) -> Result<(), Fail> {
 }
 
 #[test]
+fn one_link_alone(rt: HostRuntime) -> Result<(), Fail> {
+    let got = gathered(&rt, &P, &[0, 1], &[link(2, 2, 0, 0)], (8, 8))?;
+    check_lists(&rt, &got, &[node(0, 2, 4)], &[alternative(1, &[0, 1, 2])]);
+    Ok(())
+}
+
+#[test]
+fn a_link_that_rises(rt: HostRuntime) -> Result<(), Fail> {
+    let got = gathered(&rt, &P, &[0, 1], &[link(2, 0, 0, 2)], (8, 8))?;
+    check_blank(&rt, &got, 48, (0, 0));
+    Ok(())
+}
+
+#[test]
 fn short_lists(rt: HostRuntime) -> Result<(), Fail> {
     for (number, n, m) in [
         (49, 0, 0),

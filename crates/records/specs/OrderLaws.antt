@@ -1,4 +1,5 @@
--- The law that ties the order of alternatives to `==`.
+-- The laws that tie the orders of the records to `==`.
+--   node_ties          `==` holds of the nodes that the order does not tell apart
 --   same_alternative   alternatives of which `==` holds are the same
 --   alternative_ties   `==` holds of the alternatives that the order does not tell apart
 use Rattle.std.specs.Prelude.{◌≡◌, true, ◌&&◌, ◌==◌, nat_eq}
@@ -9,7 +10,16 @@ use Rattle.std.specs.Cmp.Derive.{both_true}
 use Rattle.std.specs.Cmp.Lexicographic.{slice_cmp, lists_ties, pointwise, bytes_decides}
 use Rattle.records.specs.declared.alternative.Alternative.{Alternative}
 use Rattle.records.specs.Cuts.{first, last}
-use Rattle.records.specs.Orders.{alternative_cmp, by_alternative}
+use Rattle.records.specs.Orders.{node_cmp, alternative_cmp, by_alternative}
+use Rattle.records.specs.declared.node.Node.{Node}
+
+pub node_ties : (x y : Node) → (x.from == y.from && (x.to == y.to && x.symbol == y.symbol)) ≡ eq_by_cmp node_cmp x y
+node_ties x y =
+    let to = x.to == y.to in
+    let symbol = x.symbol == y.symbol in
+    both_tied (x.from == y.from) (to && symbol) (nat_cmp x.from y.from) (ordering_then (nat_cmp x.to y.to) (nat_cmp x.symbol y.symbol))
+    (unsigned_ties x.from y.from)
+    (both_tied to symbol (nat_cmp x.to y.to) (nat_cmp x.symbol y.symbol) (unsigned_ties x.to y.to) (unsigned_ties x.symbol y.symbol))
 
 pub same_alternative : (x y : Alternative) → x.rule == y.rule ≡ true → pointwise nat_eq x.cuts y.cuts ≡ true → x ≡ y
 same_alternative x y h k =

@@ -7,11 +7,11 @@ use Rattle.std.specs.List.Sorted.{IsNonDecreasingBy, IsPartitionPoint}
 use Rattle.std.proofs.lemmas.List.Edits.{length-insert, get_or-insert_below, get_or-insert_at, get_or-insert_above}
 use Rattle.std.proofs.lemmas.List.Sorted.{searchable_from_sorted}
 use Rattle.std.proofs.lemmas.Bool.{cases_order, cases_lt}
-use Rattle.register.specs.Registers.{Climbs}
+use Rattle.register.specs.Lists.{Climbs}
 
 module _ {X : Type 0} {R : X → X → Ordering} (o : IsTotalOrder R) where
   -- What a binary search for x asks.
-  pub rises_from_climbs : (xs : List X) (x : X) → Climbs o xs → IsNonDecreasingBy (λ y. ordering_index (R y x)) xs
+  pub rises_from_climbs : (xs : List X) (x : X) → Climbs R xs → IsNonDecreasingBy (λ y. ordering_index (R y x)) xs
   rises_from_climbs xs x up =
       searchable_from_sorted o (λ y. y) xs x
       (λ k d h l. ap is_lt (o.antisymm (get_or xs (k + 1) d) (get_or xs k d) ∙ ap ordering_reverse (up k (k + 1) d (omega arith) l)))
@@ -32,7 +32,7 @@ module _ {X : Type 0} {R : X → X → Ordering} (o : IsTotalOrder R) where
         let P : ℕ → Type 0 = λ t. get_or (insert xs i x) t d ≡ x in
         subst P (sym e) (get_or-insert_at xs i x d hi)
 
-    pub climbs_inserted : Climbs o xs → PartedAt xs x i → Climbs o (insert xs i x)
+    pub climbs_inserted : Climbs R xs → PartedAt xs x i → Climbs R (insert xs i x)
     climbs_inserted up (low, high) a b d ab bl =
         let n = length-insert xs i x hi in
         elim (cases_order b i) [

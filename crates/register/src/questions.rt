@@ -4,7 +4,7 @@ ghost use Rattle.register.specs.Registers.{held, room, SameSlots};
 
 use crate::register::Register;
 
-impl<'a, T> Register<'a, T> {
+impl<'a, T: Ord> Register<'a, T> {
     /// A register that holds nothing, over the slots.
     pub fn new(slots: &'a mut [T]) -> Register<'a, T>
         ensures none { held result ≡ [] }
@@ -29,7 +29,7 @@ impl<'a, T> Register<'a, T> {
     }
 }
 
-impl<T: Copy> Register<'_, T> {
+impl<T: Ord + Copy> Register<'_, T> {
     /// Writes x into each slot past the records.
     pub fn fill_rest(&mut self, x: T)
         ensures same { SameSlots self.old self.new }

@@ -2,7 +2,8 @@
 --   SpansTell    the words and the spans tell what a gathering wants
 --   SpansJudge   they tell whether the words are a sentence
 --   MetForest    what is met from the top is what occurs in the derivations
-use Rattle.std.specs.Prelude.{◌≡◌, ℕ, Bool, true, ◌↔◌, List, length}
+--   MetIsOne     where two answers to what fits agree on the symbols of the grammar, the same is met by both
+use Rattle.std.specs.Prelude.{◌≡◌, ℕ, ◌+◌, ◌<◌, Bool, true, ◌↔◌, List, length}
 use Rattle.parsing.specs.Grammar.{Grammar, Sentence, WellFormed, start}
 use Rattle.parsing.specs.Items.{Source, Lawful}
 use Rattle.parsing.specs.Links.{Linked}
@@ -25,3 +26,8 @@ abbrev pub MetForest : Type 0
 MetForest = (g : Grammar) → WellFormed g → (ws : List ℕ) → Sentence g ws → (fits : ℕ → ℕ → ℕ → Bool) → Tells g ws fits
     → ((X i j : ℕ) → Met g fits (length ws) X i j ↔ ((d : Sentence g ws) × Occurs d X i j))
     × ((r : ℕ) (cs : List ℕ) → MetAlternative g fits (length ws) r cs ↔ ((d : Sentence g ws) × Uses d r cs))
+
+-- Where two answers to what fits agree on the symbols of the grammar, the same is met by both.
+abbrev pub MetIsOne : Type 0
+MetIsOne = (g : Grammar) → WellFormed g → (f h : ℕ → ℕ → ℕ → Bool) → ((X i j : ℕ) → X < g.terminals + g.nonterminals → f X i j ≡ h X i j)
+    → (n : ℕ) → ((X i j : ℕ) → Met g f n X i j ↔ Met g h n X i j) × ((r : ℕ) (cs : List ℕ) → MetAlternative g f n r cs ↔ MetAlternative g h n r cs)

@@ -1,6 +1,0 @@
-use Rattle.parts.specs.Marks.{Added}
-use Rattle.parts.proofs.Rows.{Reach}
-use Rattle.parts.proofs.part.Part.begins.Given as goal
-
-abbrev pub invariant-loop-b : goal.invariant-loop-b
-invariant-loop-b g l = Added (Reach (g.F.Fits.says l.self.spans.now l.self.symbol) (g.met.F.Fits.forward l.self.spans.now l.self.symbol) l.self.i l.self.j l.self.next.now l.b) l.initial.row l.row

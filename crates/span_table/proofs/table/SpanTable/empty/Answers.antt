@@ -1,5 +1,0 @@
-use Rattle.span_table.proofs.Cells.{told_none}
-use Rattle.span_table.proofs.table.SpanTable.empty.Goals as goal
-
-pub returns : goal.returns
-returns c x i j = told_none c.empty-none.result c.empty-none.ensures 256 256 x i j

@@ -1,4 +1,0 @@
-pub mod Listing
-pub mod Ordering
-pub mod Standing
-pub mod Sweeping

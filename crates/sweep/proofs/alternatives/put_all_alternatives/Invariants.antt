@@ -1,8 +1,0 @@
-use Rattle.register.specs.Registers.{Grew}
-use Rattle.records.specs.Orders.{by_alternative}
-use Rattle.sweep.specs.Sweeps.{OfSome}
-use Rattle.sweep.proofs.alternatives.put_all_alternatives.Given as goal
-
-abbrev pub invariant-loop-node : goal.invariant-loop-node
-invariant-loop-node g l =
-    Grew by_alternative (OfSome (g.S.StateSource.meaning l.source).grammar (g.F.Fits.says l.spans) l.nodes l.node-index) l.initial.alternatives l.alternatives
