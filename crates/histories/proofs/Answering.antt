@@ -3,18 +3,15 @@ use Rattle.std.proofs.Common.{◌≡◌, ℕ, ◌≤◌, Bool, true, false, ◌�
 use Rattle.std.specs.Cmp.{IsTotalOrder}
 use Rattle.grammar.specs.declared.refusal.Refusal.{Refusal}
 use Rattle.parsing.specs.Items.{Source}
-use Rattle.words.specs.Refusals.{refusal}
 use Rattle.words.specs.declared.word.Word.{Word}
-use Rattle.words.specs.declared.fault.FeedFault.{FeedFault}
-use Rattle.records.specs.Blanks.{blank_node, blank_alternative}
 use Rattle.records.specs.Orders.{by_node, by_alternative}
 use Rattle.records.specs.declared.node.Node.{Node}
 use Rattle.records.specs.declared.alternative.Alternative.{Alternative}
 use Rattle.histories.specs.Sizes.{MoreThan}
-use Rattle.histories.specs.Calls.{Held, opened, Call, Reply, judged, counted, refused, word_refused, Answer, plain, and_feed, and_lists}
-use Rattle.histories.specs.Forests.{Lists, filled}
+use Rattle.histories.specs.Calls.{Held, opened, Call, Reply, judged, refused, word_refused, Answer, plain, and_feed}
+use Rattle.histories.specs.Forests.{Lists}
 use Rattle.histories.specs.Meetings.{Meets, full, foreign, stuck, crowded, taken}
-use Rattle.histories.specs.Doings.{Passes, at_end, at_fault, word_no, word_yes, rest_of}
+use Rattle.histories.specs.Doings.{Passes, at_end, at_fault, word_no, word_yes, rest_of, written}
 use Rattle.histories.specs.Doings.{Does, open_range, open_crowded, open_done, take_closed, take_no, take_yes, through_closed, through_open}
 use Rattle.histories.specs.Doings.{back_closed, back_beyond, back_done, judge_closed, judge_open}
 use Rattle.histories.specs.Doings.{gather_closed, gather_none, gather_nodes, gather_alternatives, gather_done}
@@ -63,12 +60,12 @@ record Same (a b : Reply) (vs us : List ℕ) (ds es : List Word) : Type 0 where
   pub kept : vs ≡ us
   pub coming : ds ≡ es
 
-passes_same : {src : Source} {n : ℕ} {e : Option FeedFault} {ws vs us : List ℕ} {cs ds es : List Word} {a b : Reply}
+passes_same : {src : Source} {n : ℕ} {e : Option Refusal} {ws vs us : List ℕ} {cs ds es : List Word} {a b : Reply}
     → Passes src n e ws cs a vs ds → Passes src n e ws cs b us es → Same a b vs us ds es
 passes_same (at_end {b = b} x y) (at_end {b = c} p q) = record { reply = ap judged (told_same b c y q); kept = refl; coming = refl }
 passes_same (at_end x y) (at_fault p) = let z : ◌≡◌ {A = ℕ} 0 1 = cc in clash z
 passes_same (at_fault x) (at_end p q) = let z : ◌≡◌ {A = ℕ} 0 1 = cc in clash z
-passes_same (at_fault {f = f} x) (at_fault {f = g} p) = let e : f ≡ g = cc in record { reply = ap (λ h. refused (refusal h)) e; kept = refl; coming = refl }
+passes_same (at_fault {r = r} x) (at_fault {r = q} p) = let e : r ≡ q = cc in record { reply = ap refused e; kept = refl; coming = refl }
 passes_same (word_no {w = w} {r = r} x) (word_no {r = q} p) =
     let m = meets_same x p in
     let e : r ≡ q = cc in
@@ -78,14 +75,12 @@ passes_same (word_yes x y) (word_no p) = apart x p
 passes_same (word_yes x y) (word_yes p q) = passes_same y q
 
 gathered_same : {xs us : List Node} {ys vs : List Alternative} (ns : List Node) (bs : List Alternative) → xs ≡ us → ys ≡ vs
-    → and_lists (counted (length xs) (length ys)) (filled xs (length ns) blank_node) (filled ys (length bs) blank_alternative)
-    ≡ and_lists (counted (length us) (length vs)) (filled us (length ns) blank_node) (filled vs (length bs) blank_alternative)
-gathered_same ns bs p q = λ i.
-    and_lists (counted (length (p i)) (length (q i))) (filled (p i) (length ns) blank_node) (filled (q i) (length bs) blank_alternative)
+    → written ns bs xs ys ≡ written ns bs us vs
+gathered_same ns bs p q = λ i. written ns bs (p i) (q i)
 
 -- There are no more records than a list of all of them has, and these have room.
 not_fewer : {X P : Type 0} {R : X → X → Ordering} (o : IsTotalOrder R) {Q : X → Type 0} {xs : List X} {n : ℕ}
-    → Lists o Q xs → length xs ≤ n → MoreThan Q n → P
+    → Lists R Q xs → length xs ≤ n → MoreThan Q n → P
 not_fewer o a h m = absurd (omega (arith, listed_most o a m.some m.apart m.each, m.many))
 
 does_same : {src : Source} {m j k : Held} {c : Call} {a b : Answer} → Does src m c a j → Does src m c b k → (a ≡ b) × (j ≡ k)
@@ -130,7 +125,8 @@ does_same (gather_alternatives a b c) (gather_done p q r s t) = not_fewer by_alt
 does_same (gather_done a b c e f) (gather_none p) = absurd (p a)
 does_same (gather_done a b c e f) (gather_nodes p q) = not_fewer by_node b c q
 does_same (gather_done a b c e f) (gather_alternatives p q r) = not_fewer by_alternative e f r
-does_same (gather_done {ns = ns} {bs = bs} a b c e f) (gather_done p q r s t) = (gathered_same ns bs (listed_same by_node b q) (listed_same by_alternative e s), refl)
+does_same (gather_done {ns = ns} {bs = bs} a b c e f) (gather_done p q r s t) =
+    (gathered_same ns bs (listed_same by_node b q) (listed_same by_alternative e s), refl)
 
 pub determinacy : Determinacy
 determinacy src m c a b j k x y = does_same x y

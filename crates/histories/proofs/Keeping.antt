@@ -3,7 +3,6 @@ use Rattle.std.proofs.Common.{◌≡◌, ℕ, List, Some, None, Option, refl, ap
 use Rattle.grammar.specs.declared.refusal.Refusal.{Refusal}
 use Rattle.parsing.specs.Items.{Source}
 use Rattle.words.specs.declared.word.Word.{Word}
-use Rattle.words.specs.declared.fault.FeedFault.{FeedFault}
 use Rattle.histories.specs.Calls.{Held, opened, Call, Reply, Answer}
 use Rattle.histories.specs.Meetings.{Meets, full, foreign, stuck, crowded, taken}
 use Rattle.histories.specs.Doings.{Passes, at_end, at_fault, word_no, word_yes}
@@ -14,7 +13,7 @@ use Rattle.histories.specs.Histories.{History, Adds, out, stop, add, Keeps, keep
 use Rattle.histories.specs.Histories.{Moves, opens, opens_out, opens_over, takes, takes_not, takes_closed, reads, reads_closed}
 use Rattle.histories.specs.Histories.{goes, goes_not, goes_closed, judges, gathers}
 
-passes_adds : {src : Source} {n : ℕ} {e : Option FeedFault} {ws vs : List ℕ} {cs ds : List Word} {a : Reply}
+passes_adds : {src : Source} {n : ℕ} {e : Option Refusal} {ws vs : List ℕ} {cs ds : List Word} {a : Reply}
     → Passes src n e ws cs a vs ds → Adds src n ws cs vs
 passes_adds (at_end x y) = out
 passes_adds (at_fault x) = out

@@ -5,4 +5,5 @@ pub mod Answering
 pub mod Tidying
 pub mod Rights
 pub mod Through
-pub mod Joining
+pub mod Continuing
+pub mod Remembering

@@ -2,7 +2,7 @@
 use Rattle.std.proofs.Common.{◌≡◌, ℕ, zero, suc, ◌≤◌, ◌⊎◌, List, [], ◌∷◌, length, Ordering, Less, sym, refl, ap, ◌∙◌, subst, ap₂, inl, inr, arith}
 use Rattle.std.specs.Cmp.{IsTotalOrder}
 use Rattle.std.specs.Ordering.{ordering_reverse}
-use Rattle.register.specs.Registers.{Has, Apart, Climbs}
+use Rattle.register.specs.Lists.{Has, Apart, Climbs}
 use Rattle.register.proofs.Growing.{has_none}
 use Rattle.histories.specs.Sizes.{AtMost, MoreThan}
 use Rattle.histories.specs.Forests.{Lists}
@@ -63,10 +63,10 @@ module _ {X : Type 0} where
       omega arith
 
 module _ {X : Type 0} {R : X → X → Ordering} (o : IsTotalOrder R) where
-  climbs_tail : (x : X) (xs : List X) → Climbs o (x ∷ xs) → Climbs o xs
+  climbs_tail : (x : X) (xs : List X) → Climbs R (x ∷ xs) → Climbs R xs
   climbs_tail x xs up i j d ij jl = up (suc i) (suc j) d (omega arith) (omega arith)
 
-  climbs_head : (x : X) (xs : List X) → Climbs o (x ∷ xs) → (z : X) → Has xs z → R x z ≡ Less
+  climbs_head : (x : X) (xs : List X) → Climbs R (x ∷ xs) → (z : X) → Has xs z → R x z ≡ Less
   climbs_head x xs up z (k, l, e) = ap (R x) (sym (e x)) ∙ up 0 (suc k) x (omega arith) (omega arith)
 
   -- Nothing is below and above another.
@@ -74,7 +74,7 @@ module _ {X : Type 0} {R : X → X → Ordering} (o : IsTotalOrder R) where
   never x y p q = let f = o.antisymm x y in let r = ap ordering_reverse q in let z : ◌≡◌ {A = ℕ} 0 1 = cc in absurd (omega arith)
 
   -- Two lists in order that have the same are the same.
-  pub lists_same : (xs ys : List X) → Climbs o xs → Climbs o ys → ((z : X) → Has xs z → Has ys z) → ((z : X) → Has ys z → Has xs z) → xs ≡ ys
+  pub lists_same : (xs ys : List X) → Climbs R xs → Climbs R ys → ((z : X) → Has xs z → Has ys z) → ((z : X) → Has ys z → Has xs z) → xs ≡ ys
   lists_same [] [] p q f g = refl
   lists_same [] (y ∷ ys) p q f g = absurd (has_none y (g y (has_head y ys)))
   lists_same (x ∷ xs) [] p q f g = absurd (has_none x (f x (has_head x xs)))
@@ -102,13 +102,17 @@ module _ {X : Type 0} {R : X → X → Ordering} (o : IsTotalOrder R) where
                 ]
           ]
 
-  pub listed_same : {P : X → Type 0} {xs ys : List X} → Lists o P xs → Lists o P ys → xs ≡ ys
+  pub listed_same : {P : X → Type 0} {xs ys : List X} → Lists R P xs → Lists R P ys → xs ≡ ys
   listed_same {P} {xs} {ys} a b =
       lists_same xs ys a.order b.order (λ z h. b.each z (a.only z h)) (λ z h. a.each z (b.only z h))
 
   -- A list of all records with a property counts them.
-  pub listed_most : {P : X → Type 0} {xs : List X} → Lists o P xs → AtMost P (length xs)
+  pub listed_most : {P : X → Type 0} {xs : List X} → Lists R P xs → AtMost P (length xs)
   listed_most {P} {xs} a ys apart f = no_longer ys xs apart (λ z h. a.each z (f z h))
+
+  -- Where such a list has room, there is room for all.
+  pub listed_room : {P : X → Type 0} {xs : List X} {n : ℕ} → Lists R P xs → length xs ≤ n → AtMost P n
+  listed_room a h ys apart f = omega (arith, listed_most a ys apart f)
 
 -- There are not at most n and more than n.
 pub not_both : {X P : Type 0} {Q : X → Type 0} {n : ℕ} → AtMost Q n → MoreThan Q n → P

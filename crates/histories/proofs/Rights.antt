@@ -1,157 +1,291 @@
 -- Each answer of a history is right, so that the law holds of it.
-use Rattle.std.proofs.Common.{◌≡◌, ℕ, ◌<◌, ◌≤◌, ◌↔◌, List, [], ◌∷◌, ◌++◌, length, Some, None, Option, sym, refl, ap, ◌∙◌, subst, append_assoc, append-nil, arith, length-append}
-use Rattle.std.proofs.lemmas.List.{length-map}
+use Rattle.std.proofs.Common.{◌≡◌, ℕ, ◌<◌, ◌≤◌, ◌↔◌, List, take, [], ◌∷◌, ◌++◌, length, Some, None, Option, sym, refl, ap, ◌∙◌, subst, inl, inr, append_assoc, append-nil, arith, length-append}
 use Rattle.grammar.specs.declared.refusal.Refusal.{Refusal}
-use Rattle.parsing.specs.Grammar.{Grammar}
 use Rattle.parsing.specs.Items.{Source}
-use Rattle.words.specs.Feeds.{Coming}
 use Rattle.words.specs.declared.word.Word.{Word}
-use Rattle.words.specs.declared.fault.FeedFault.{FeedFault}
 use Rattle.states.specs.Sources.{Sourced}
-use Rattle.histories.specs.Refusals.{of_reading}
-use Rattle.histories.specs.Calls.{Held, closed, opened, Call, open_with, Answer, Reply, judged, word_refused, Refuses}
+use Rattle.records.specs.Orders.{by_node, by_alternative}
+use Rattle.records.specs.declared.node.Node.{Node}
+use Rattle.records.specs.declared.alternative.Alternative.{Alternative}
+use Rattle.histories.specs.Refusals.{of_reading, Numbered}
+use Rattle.histories.specs.Calls.{Held, closed, opened, Call, open_with, gather, Answer, Reply, done, judged, refused, word_refused, plain}
 use Rattle.histories.specs.Meetings.{Meets}
 use Rattle.histories.specs.Doings.{Passes, at_end, at_fault, word_no, word_yes}
 use Rattle.histories.specs.Doings.{Does, open_range, open_crowded, open_done, take_closed, take_no, take_yes, through_closed, through_open}
 use Rattle.histories.specs.Doings.{back_closed, back_beyond, back_done, judge_closed, judge_open}
 use Rattle.histories.specs.Doings.{gather_closed, gather_none, gather_nodes, gather_alternatives, gather_done}
 use Rattle.histories.specs.Histories.{History, Runs, runs_made, runs_then}
-use Rattle.histories.specs.Laws.{NoneBegins, terminals_of, Verdict, ReadRight, Right, AllRight}
+use Rattle.histories.specs.Laws.{Begins, DeadEnd, terminals_of, Verdict, Gathered, OpenRight, TakeRight, ReadRight, BackRight, GatherRight, Right, AllRight}
 use Rattle.histories.specs.Statements.{Lawfulness}
-use Rattle.histories.proofs.Listing.{not_both}
+use Rattle.histories.proofs.Listing.{not_both, listed_room}
 use Rattle.histories.proofs.Keeping.{runs_keeps, keeps_same}
-use Rattle.histories.proofs.Sentences.{clash, accepts_sentence, judged_sentence, meets_45, meets_place}
+use Rattle.histories.proofs.Sentences.{clash, accepts_sentence, judged_sentence, dead_end, taken_begins, taken_alive, places_45}
 
--- Of an open there is nothing to be right but what is kept.
-open_right : (g : Grammar) (m k : Held) (n : ℕ) (a : Answer) → Right g m (open_with n) a k
-open_right g closed k n a = tt
-open_right g (opened l ws) k n a = tt
+-- No list is itself with one more.
+longer : {P : Type 0} (ws : List ℕ) (t : ℕ) → ws ≡ ws ++ t ∷ [] → P
+longer ws t e = absurd (omega (arith, simp length-append at (ap length e)))
 
--- The words that a read-through added, and the words that it did not add.
-record Added (ws : List ℕ) (cs : List Word) (a : Reply) (vs : List ℕ) : Type 0 where
-  pub added : List Word
-  pub rest : List Word
-  pub held : cs ≡ added ++ rest
-  pub kept : vs ≡ ws ++ terminals_of added
-  pub whole : (Refuses a → ⊥) → rest ≡ []
+same_words : {n k : ℕ} {ws vs : List ℕ} → opened n ws ≡ opened k vs → ws ≡ vs
+same_words e = cc
 
-added : {src : Source} {n : ℕ} {e : Option FeedFault} {ws vs : List ℕ} {cs ds : List Word} {a : Reply}
-    → Passes src n e ws cs a vs ds → Added ws cs a vs
-added {ws = ws} (at_end x y) = record { added = []; rest = []; held = refl; kept = sym (append-nil ws); whole = λ _. refl }
-added {ws = ws} (at_fault x) = record { added = []; rest = []; held = refl; kept = sym (append-nil ws); whole = λ _. refl }
-added {ws = ws} (word_no {w = w} {cs = cs} x) =
-    record { added = []; rest = w ∷ cs; held = refl; kept = sym (append-nil ws); whole = λ f. absurd (f tt) }
-added {ws = ws} (word_yes {w = w} x p) =
-    let r = added p in
+-- A refusal is not done.
+not_done : {P : Type 0} (r : Refusal) → plain (refused r) ≡ plain done → P
+not_done r e = let z : ◌≡◌ {A = ℕ} 0 1 = cc in clash z
+
+module _ {src : Source} (law : Sourced src) where
+  take_no_right : {n t : ℕ} {ws : List ℕ} {r : Refusal} → Meets src n ws t (Some r)
+      → TakeRight src n ws t (plain (refused r)) (opened n ws)
+  take_no_right {n = n} {t = t} {ws = ws} {r = r} x = record {
+    nothing_else = inr (r, refl);
+    dead_end = dead_end law x;
+    places = λ y. ap (λ z. plain (refused z)) (places_45 x y);
+    reason = λ q e. let same : r ≡ q = cc in subst (λ z. Meets src n ws t (Some z)) same x;
+    begins = not_done r;
+    kept = (not_done r, λ e. longer ws t (same_words e));
+    stays = ((λ _. refl), λ _. tt);
+  }
+
+  take_yes_right : {n t : ℕ} {ws : List ℕ} → Meets src n ws t None → TakeRight src n ws t (plain done) (opened n (ws ++ t ∷ []))
+  take_yes_right {t = t} {ws = ws} x = record {
+    nothing_else = inl refl;
+    dead_end = ((λ y. absurd y), taken_alive law x);
+    places = λ y. absurd y;
+    reason = λ q e. not_done q (sym e);
+    begins = λ _. taken_begins law x;
+    kept = ((λ _. refl), λ _. refl);
+    stays = ((λ y. absurd y), λ e. longer ws t (same_words (sym e)));
+  }
+
+  -- Of a read-through that has come to the end of its feed.
+  none_before : {P : Type 0} (before : List Word) (w : Word) (behind : List Word) → [] ≡ before ++ w ∷ behind → P
+  none_before [] w behind e = let z : ◌≡◌ {A = ℕ} 0 1 = cc in clash z
+  none_before (b ∷ before) w behind e = let z : ◌≡◌ {A = ℕ} 0 1 = cc in clash z
+
+  no_first : {P : Type 0} (w : Word) (behind : List Word) → [] ≡ w ∷ behind → P
+  no_first w behind e = let z : ◌≡◌ {A = ℕ} 0 1 = cc in clash z
+
+  -- A word was added before the words that were.
+  begins_first : {n : ℕ} {ws : List ℕ} {w : Word} {added : List Word} → Meets src n ws w.terminal None
+      → ((before : List Word) (v : Word) (behind : List Word) → added ≡ before ++ v ∷ behind
+      → Begins src.grammar (((ws ++ w.terminal ∷ []) ++ terminals_of before) ++ v.terminal ∷ []))
+      → (before : List Word) (v : Word) (behind : List Word) → w ∷ added ≡ before ++ v ∷ behind
+      → Begins src.grammar ((ws ++ terminals_of before) ++ v.terminal ∷ [])
+  begins_first {ws = ws} {w = w} x later [] v behind h =
+      let same : w ≡ v = cc in
+      subst (λ y. Begins src.grammar (y ++ v.terminal ∷ [])) (sym (append-nil ws))
+      (subst (λ y. Begins src.grammar (ws ++ y.terminal ∷ [])) same (taken_begins law x))
+  begins_first {ws = ws} {w = w} {added = added} x later (b ∷ before) v behind h =
+      let same : w ≡ b = cc in
+      let tail : added ≡ before ++ v ∷ behind = cc in
+      let on : (ws ++ w.terminal ∷ []) ++ terminals_of before ≡ ws ++ b.terminal ∷ terminals_of before =
+      append_assoc ws (w.terminal ∷ []) (terminals_of before) ∙ ap (λ y. ws ++ y.terminal ∷ terminals_of before) same in
+      subst (λ y. Begins src.grammar (y ++ v.terminal ∷ [])) on (later before v behind tail)
+
+  read_right : {n : ℕ} {e : Option Refusal} {ws vs : List ℕ} {cs ds : List Word} {a : Reply} → Passes src n e ws cs a vs ds
+      → ReadRight src n ws (record { words = cs; fault = e }) a vs (record { words = ds; fault = e })
+  read_right {e = e} {ws = ws} (at_end {b = b} x y) =
+      let verdict : Verdict src.grammar ws (judged b) = record { yes_or_no = b; answer = refl; exact = judged_sentence law y } in
+      record {
+        added = [];
+        rest = [];
+        held = refl;
+        kept = sym (append-nil ws);
+        left = refl;
+        fault = refl;
+        begins = λ before w behind h. none_before before w behind h;
+        dead_end = λ w behind h. no_first w behind h;
+        places = λ w behind h. no_first w behind h;
+        reason = λ w behind h. no_first w behind h;
+        at_fault = λ _ f q. let z : ◌≡◌ {A = ℕ} 0 1 = cc in clash z;
+        at_end = λ _ _. verdict;
+        whole = λ _. (refl, x, verdict);
+      }
+  read_right {e = e} {ws = ws} (at_fault {r = r} x) = record {
+    added = [];
+    rest = [];
+    held = refl;
+    kept = sym (append-nil ws);
+    left = refl;
+    fault = refl;
+    begins = λ before w behind h. none_before before w behind h;
+    dead_end = λ w behind h. no_first w behind h;
+    places = λ w behind h. no_first w behind h;
+    reason = λ w behind h. no_first w behind h;
+    at_fault = λ _ p q. let same : r ≡ p = cc in ap refused same;
+    at_end = λ _ q. let z : ◌≡◌ {A = ℕ} 0 1 = cc in clash z;
+    whole = λ h. absurd (h tt);
+  }
+  read_right {n = n} {ws = ws} (word_no {w = w} {cs = cs} {r = r} x) = record {
+    added = [];
+    rest = w ∷ cs;
+    held = refl;
+    kept = sym (append-nil ws);
+    left = refl;
+    fault = refl;
+    begins = λ before v behind h. none_before before v behind h;
+    dead_end = λ v behind h. let same : w ≡ v = cc in subst (λ y. Numbered 45 r ↔ DeadEnd src.grammar ws y.terminal) same (dead_end law x);
+    places = λ v behind h y.
+        let same : w ≡ v = cc in
+        subst (λ u. word_refused r w.from w.to ≡ word_refused (of_reading 45 (length ws) u.terminal) u.from u.to) same
+        (ap (λ u. word_refused u w.from w.to) (places_45 x y));
+    reason = λ v behind h.
+        let same : w ≡ v = cc in
+        subst (λ u. (q : Refusal) × Meets src n ws u.terminal (Some q) × (word_refused r w.from w.to ≡ word_refused q u.from u.to)) same
+        (r, x, refl);
+    at_fault = λ h. no_first w cs (sym h);
+    at_end = λ h. no_first w cs (sym h);
+    whole = λ h. absurd (h tt);
+  }
+  read_right {ws = ws} (word_yes {w = w} x p) =
+      let r = read_right p in
+      record {
+        added = w ∷ r.added;
+        rest = r.rest;
+        held = ap (λ l. w ∷ l) r.held;
+        kept = r.kept ∙ append_assoc ws (w.terminal ∷ []) (terminals_of r.added);
+        left = r.left;
+        fault = refl;
+        begins = λ before v behind h. begins_first x r.begins before v behind h;
+        dead_end = r.dead_end;
+        places = r.places;
+        reason = r.reason;
+        at_fault = r.at_fault;
+        at_end = r.at_end;
+        whole = r.whole;
+      }
+
+  open_right : {m k : Held} {n : ℕ} {a : Answer} → Does src m (open_with n) a k → OpenRight src m n a k
+  open_right (open_range x) = record {
+    nothing_else = inr (inl (record { number = refl; layer = refl }));
+    exact = (not_done _, λ y. absurd (x y.0));
+    no_limit = λ _. refl;
+    crowded = λ y _. absurd (x y);
+    opens = not_done _;
+    stays = λ _. refl;
+  }
+  open_right (open_crowded x y) = record {
+    nothing_else = inr (inr (record { number = refl; layer = refl }));
+    exact = (not_done _, λ z. absurd (z.1 y));
+    no_limit = λ z. absurd (z x);
+    crowded = λ _ _. refl;
+    opens = not_done _;
+    stays = λ _. refl;
+  }
+  open_right (open_done x y) = record {
+    nothing_else = inl refl;
+    exact = ((λ _. (x, y)), λ _. refl);
+    no_limit = λ z. absurd (z x);
+    crowded = λ _ z. absurd (y z);
+    opens = λ _. refl;
+    stays = λ z. absurd z;
+  }
+
+  back_beyond_right : {n b : ℕ} {ws : List ℕ} → length ws < b
+      → BackRight n ws b (plain (refused (of_reading 47 b (length ws)))) (opened n ws)
+  back_beyond_right x = record {
+    nothing_else = inr (record { number = refl; layer = refl });
+    exact = (not_done _, λ y. absurd (omega arith));
+    beyond = λ _. refl;
+    back = not_done _;
+    stays = λ _. refl;
+  }
+
+  back_done_right : {n b : ℕ} {ws : List ℕ} → b ≤ length ws → BackRight n ws b (plain done) (opened n (take b ws))
+  back_done_right x = record {
+    nothing_else = inl refl;
+    exact = ((λ _. x), λ _. refl);
+    beyond = λ y. absurd (omega arith);
+    back = λ _. refl;
+    stays = λ y. absurd y;
+  }
+
+  gather_right : {n : ℕ} {ws : List ℕ} {ns : List Node} {bs : List Alternative} {a : Answer} {k : Held}
+      → Does src (opened n ws) (gather ns bs) a k → GatherRight src.grammar ws ns bs a × (k ≡ opened n ws)
+  gather_right (gather_none x) = (
     record {
-      added = w ∷ r.added;
-      rest = r.rest;
-      held = ap (λ l. w ∷ l) r.held;
-      kept = r.kept ∙ append_assoc ws (w.terminal ∷ []) (terminals_of r.added);
-      whole = r.whole;
-    }
-
--- A word is refused where as many words are kept as before, or more.
-later : {src : Source} {n : ℕ} {e : Option FeedFault} {ws vs : List ℕ} {cs ds : List Word} {a : Reply}
-    → Passes src n e ws cs a vs ds → (r : Refusal) (p q : ℕ) → a ≡ word_refused r p q → length ws ≤ r.first
-later (at_end x y) r p q h = let z : ◌≡◌ {A = ℕ} 0 1 = cc in clash z
-later (at_fault x) r p q h = let z : ◌≡◌ {A = ℕ} 0 1 = cc in clash z
-later (word_no {ws = ws} {r = f} x) r p q h = let same : f ≡ r = cc in subst (λ y. length ws ≤ y.first) same (omega (arith, meets_place x))
-later (word_yes {ws = ws} {w = w} x d) r p q h = let k = later d r p q h in omega (arith, simp length-append at k)
-
-shorter : {src : Source} {n : ℕ} {e : Option FeedFault} {ws vs : List ℕ} {cs ds : List Word} {a : Reply}
-    → Passes src n e ws cs a vs ds → (us : List ℕ) → length us < length ws → (t p q : ℕ) → a ≡ word_refused (of_reading 45 (length us) t) p q → ⊥
-shorter d us h t p q e = let k = later d (of_reading 45 (length us) t) p q e in omega arith
-
-module _ {src : Source} (law : Sourced src) (n : ℕ) (e : Option FeedFault) where
-  -- The words us are kept when w comes.
-  each : (before : List Word) (w : Word) (behind : List Word) (us : List ℕ) {ws vs : List ℕ} {cs ds : List Word} {a : Reply}
-      → Passes src n e ws cs a vs ds → cs ≡ before ++ w ∷ behind → us ≡ ws ++ terminals_of before → length us ≤ length vs
-      → length us < 254 → w.terminal < src.grammar.terminals
-      → (a ≡ word_refused (of_reading 45 (length us) w.terminal) w.from w.to) ↔ NoneBegins src.grammar (us ++ w.terminal ∷ [])
-  each [] w behind us (at_end x y) h g k lo hi = let z : ◌≡◌ {A = ℕ} 0 1 = cc in clash z
-  each [] w behind us (at_fault x) h g k lo hi = let z : ◌≡◌ {A = ℕ} 0 1 = cc in clash z
-  each [] w behind us {ws} (word_no {w = v} {r = r} x) h g k lo hi =
-      let same : v ≡ w = cc in
-      let is : ws ≡ us = sym (g ∙ append-nil ws) in
-      let met : Meets src n us w.terminal (Some r) = subst (λ y. Meets src n y w.terminal (Some r)) is (subst (λ y. Meets src n ws y.terminal (Some r)) same x) in
-      let q = meets_45 law met lo hi in
-      ((λ y. q.0 (let c : r ≡ of_reading 45 (length us) w.terminal = cc in ap Some c)), λ none. let y = q.1 none in cc)
-  each [] w behind us {ws} (word_yes {w = v} x d) h g k lo hi =
-      let same : v ≡ w = cc in
-      let is : ws ≡ us = sym (g ∙ append-nil ws) in
-      let met : Meets src n us w.terminal None = subst (λ y. Meets src n y w.terminal None) is (subst (λ y. Meets src n ws y.terminal None) same x) in
-      let q = meets_45 law met lo hi in
-      let less : length us < length (ws ++ v.terminal ∷ []) = simp length-append (omega (arith, ap length is)) in
-      ((λ y. absurd (shorter d us less _ _ _ y)), λ none. let y = q.1 none in let z : ◌≡◌ {A = ℕ} 0 1 = cc in clash z)
-  each (b ∷ before) w behind us (at_end x y) h g k lo hi = let z : ◌≡◌ {A = ℕ} 0 1 = cc in clash z
-  each (b ∷ before) w behind us (at_fault x) h g k lo hi = let z : ◌≡◌ {A = ℕ} 0 1 = cc in clash z
-  each (b ∷ before) w behind us (word_no x) h g k lo hi = absurd (omega (arith, simp length-append at (ap length g)))
-  each (b ∷ before) w behind us {ws} (word_yes {w = v} {cs = cs} x d) h g k lo hi =
-      let same : v ≡ b = cc in
-      let tail : cs ≡ before ++ w ∷ behind = cc in
-      let on : us ≡ (ws ++ v.terminal ∷ []) ++ terminals_of before =
-      g ∙ sym (append_assoc ws (b.terminal ∷ []) (terminals_of before)) ∙ ap (λ y. (ws ++ y.terminal ∷ []) ++ terminals_of before) (sym same) in
-      each before w behind us d tail on k lo hi
-
--- A read-through that is not refused has judged the words that it kept.
-verdict : {src : Source} {n : ℕ} {e : Option FeedFault} {ws vs : List ℕ} {cs ds : List Word} {a : Reply}
-    → Sourced src → Passes src n e ws cs a vs ds → (Refuses a → ⊥) → Verdict src.grammar vs a
-verdict law (at_end {b = b} x y) h = record { yes_or_no = b; answer = refl; exact = judged_sentence law y }
-verdict law (at_fault x) h = absurd (h tt)
-verdict law (word_no x) h = absurd (h tt)
-verdict law (word_yes x d) h = verdict law d h
-
-read_right : {src : Source} {n : ℕ} {ws vs : List ℕ} {c : Coming} {a : Reply} {ds : List Word}
-    → Sourced src → Passes src n c.fault ws c.words a vs ds → ReadRight src.grammar ws c a vs
-read_right {n = n} {ws = ws} {vs = vs} {c = c} law d =
-    let r = added d in
+      nothing_else = inr (inl (record { number = refl; layer = refl }));
+      room = λ s _ _. absurd (x ((accepts_sentence law).1 s));
+      counts = λ p q e. let z : ◌≡◌ {A = ℕ} 0 1 = cc in clash z;
+      no_sentence = λ _. refl;
+      few_nodes = λ s _. absurd (x ((accepts_sentence law).1 s));
+      few_alternatives = λ s _ _. absurd (x ((accepts_sentence law).1 s));
+    },
+    refl,
+  )
+  gather_right (gather_nodes x y) = (
     record {
-      added = r.added;
-      rest = r.rest;
-      held = r.held;
-      kept = r.kept;
-      each = λ before w behind h k.
-          let long : length (ws ++ terminals_of before) ≤ length vs = simp (length-append, length-map) (omega (arith, simp (length-append, length-map) at (ap length r.kept))) in
-          each law n c.fault before w behind (ws ++ terminals_of before) d h refl long;
-      whole = λ h. (r.whole h, verdict law d h);
-    }
+      nothing_else = inr (inr (inl (record { number = refl; layer = refl })));
+      room = λ _ p _. not_both p y;
+      counts = λ p q e. let z : ◌≡◌ {A = ℕ} 0 1 = cc in clash z;
+      no_sentence = λ s. absurd (s ((accepts_sentence law).0 x));
+      few_nodes = λ _ _. refl;
+      few_alternatives = λ _ p _. not_both p y;
+    },
+    refl,
+  )
+  gather_right (gather_alternatives x y z) = (
+    record {
+      nothing_else = inr (inr (inr (record { number = refl; layer = refl })));
+      room = λ _ _ q. not_both q z;
+      counts = λ p q e. let u : ◌≡◌ {A = ℕ} 0 1 = cc in clash u;
+      no_sentence = λ s. absurd (s ((accepts_sentence law).0 x));
+      few_nodes = λ _ p. not_both y p;
+      few_alternatives = λ _ _ _. refl;
+    },
+    refl,
+  )
+  gather_right {ws = ws} {ns = ns} {bs = bs} {a = a} (gather_done {xs = xs} {ys = ys} x p q u v) =
+      let all : Gathered src.grammar ws ns bs a =
+      record { nodes = xs; alternatives = ys; nodes_are = p; alternatives_are = u; answer = refl } in
+      let s = (accepts_sentence law).0 x in (
+        record {
+          nothing_else = inl all;
+          room = λ _ _ _. all;
+          counts = λ _ _ _. (s, all);
+          no_sentence = λ z. absurd (z s);
+          few_nodes = λ _ z. not_both (listed_room by_node p q) z;
+          few_alternatives = λ _ _ z. not_both (listed_room by_alternative u v) z;
+        },
+        refl,
+      )
 
-does_right : {src : Source} {m k : Held} {c : Call} {a : Answer} → Sourced src → Does src m c a k → Right src.grammar m c a k
-does_right {src} {m} law (open_range {n = n} x) = open_right src.grammar m m n _
-does_right {src} {m} law (open_crowded {n = n} x y) = open_right src.grammar m m n _
-does_right {src} {m} law (open_done {n = n} x y) = open_right src.grammar m (opened n []) n _
-does_right law take_closed = tt
-does_right law (take_no {r = r} x) = λ lo hi.
-    let q = meets_45 law x lo hi in
-    ((λ e. q.0 (let c : r ≡ _ = cc in ap Some c)), λ none. let y = q.1 none in cc)
-does_right law (take_yes x) = λ lo hi.
-    let q = meets_45 law x lo hi in
-    ((λ e. let z : ◌≡◌ {A = ℕ} 0 1 = cc in clash z), λ none. let y = q.1 none in let z : ◌≡◌ {A = ℕ} 0 1 = cc in clash z)
-does_right law through_closed = tt
-does_right law (through_open {vs = vs} {a = a} d) =
-    record { reply = a; left = _; answer = refl; words = vs; holds = refl; right = read_right law d }
-does_right law back_closed = tt
-does_right law (back_beyond x) = tt
-does_right law (back_done x) = tt
-does_right law judge_closed = tt
-does_right law (judge_open {b = b} x) = (judged b, refl, record { yes_or_no = b; answer = refl; exact = judged_sentence law x })
-does_right law gather_closed = tt
-does_right law (gather_none x) = λ s p q. absurd (x ((accepts_sentence law).1 s))
-does_right law (gather_nodes x y) = λ s p q. not_both p y
-does_right law (gather_alternatives x y z) = λ s p q. not_both q z
-does_right law (gather_done {xs = xs} {ys = ys} x p q u v) = λ s _ _.
-    record { nodes = xs; alternatives = ys; nodes_are = p; alternatives_are = u; answer = refl }
+  opens : (m : Held) {k : Held} {n : ℕ} {a : Answer} → Does src m (open_with n) a k → Right src m (open_with n) a k
+  opens closed d = open_right d
+  opens (opened l ws) d = open_right d
 
-all_right : {src : Source} {h : History} {m : Held} → Sourced src → Runs src h m → AllRight src h
-all_right law runs_made = tt
-all_right {src} law (runs_then {m = m} {c = c} {a = a} r d) = (
-  all_right law r,
-  λ x y p q.
-      let before = keeps_same (runs_keeps r) p in
-      let behind = keeps_same (runs_keeps (runs_then r d)) q in
-      subst (λ z. Right src.grammar z c a y) before (subst (λ z. Right src.grammar m c a z) behind (does_right law d)),
-)
+  does_right : {m k : Held} {c : Call} {a : Answer} → Does src m c a k → Right src m c a k
+  does_right {m} (open_range x) = opens m (open_range x)
+  does_right {m} (open_crowded x y) = opens m (open_crowded x y)
+  does_right {m} (open_done x y) = opens m (open_done x y)
+  does_right take_closed = record { answer = refl; stays = refl }
+  does_right (take_no x) = take_no_right x
+  does_right (take_yes x) = take_yes_right x
+  does_right through_closed = record { answer = refl; stays = refl }
+  does_right (through_open {vs = vs} {a = a} d) =
+      record { reply = a; coming = _; answer = refl; words = vs; holds = refl; right = read_right d }
+  does_right back_closed = record { answer = refl; stays = refl }
+  does_right (back_beyond x) = back_beyond_right x
+  does_right (back_done x) = back_done_right x
+  does_right judge_closed = record { answer = refl; stays = refl }
+  does_right (judge_open {b = b} x) = (
+    record { reply = judged b; answer = refl; verdict = record { yes_or_no = b; answer = refl; exact = judged_sentence law x } },
+    refl,
+  )
+  does_right gather_closed = record { answer = refl; stays = refl }
+  does_right (gather_none x) = gather_right (gather_none x)
+  does_right (gather_nodes x y) = gather_right (gather_nodes x y)
+  does_right (gather_alternatives x y z) = gather_right (gather_alternatives x y z)
+  does_right (gather_done x p q u v) = gather_right (gather_done x p q u v)
+
+  all_right : {h : History} {m : Held} → Runs src h m → AllRight src h
+  all_right runs_made = tt
+  all_right (runs_then {m = m} {c = c} {a = a} r d) = (
+    all_right r,
+    λ x y p q.
+        let before = keeps_same (runs_keeps r) p in
+        let behind = keeps_same (runs_keeps (runs_then r d)) q in
+        subst (λ z. Right src z c a y) before (subst (λ z. Right src m c a z) behind (does_right d)),
+  )
 
 pub lawfulness : Lawfulness
 lawfulness src law h m r = record { keeps = runs_keeps r; alone = λ k x. keeps_same x (runs_keeps r); right = all_right law r }

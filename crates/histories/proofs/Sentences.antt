@@ -1,5 +1,5 @@
 -- What the links of the kept words say of sentences.
-use Rattle.std.proofs.Common.{◌≡◌, ℕ, ◌<◌, Bool, true, ◌↔◌, List, [], ◌∷◌, ◌++◌, length, Some, Option, sym, refl, ap, ◌∙◌, subst, append_assoc, arith}
+use Rattle.std.proofs.Common.{◌≡◌, ℕ, ◌<◌, Bool, true, ◌↔◌, List, [], ◌∷◌, ◌++◌, length, Some, None, Option, sym, refl, ap, ◌∙◌, subst, append_assoc, arith}
 use Rattle.grammar.specs.declared.refusal.Refusal.{Refusal}
 use Rattle.parsing.specs.Grammar.{Sentence}
 use Rattle.parsing.specs.Items.{Source}
@@ -7,10 +7,10 @@ use Rattle.parsing.specs.Links.{Linked}
 use Rattle.link_growth.specs.Counting.{Steps}
 use Rattle.parsing.proofs.Theorems.{judgement, viable}
 use Rattle.states.specs.Sources.{Sourced}
-use Rattle.histories.specs.Refusals.{of_reading}
+use Rattle.histories.specs.Refusals.{of_reading, Numbered}
 use Rattle.histories.specs.Meetings.{Meets, full, foreign, stuck, crowded, taken}
 use Rattle.histories.specs.Doings.{Accepts}
-use Rattle.histories.specs.Laws.{NoneBegins}
+use Rattle.histories.specs.Laws.{Begins, NoneBegins, DeadEnd}
 
 -- Two different constructors are never equal: from such an equation `cc` has this one.
 pub clash : {P : Type 0} → ◌≡◌ {A = ℕ} 0 1 → P
@@ -41,6 +41,28 @@ module _ {src : Source} (law : Sourced src) where
       let (vs, x) = (viable src law.well_formed law.lawful ws t h).0 step in
       none vs (rw append_assoc x)
 
+  -- A refusal of a terminal is a 45 exactly at a dead end.
+  pub dead_end : {n t : ℕ} {ws : List ℕ} {r : Refusal} → Meets src n ws t (Some r) → Numbered 45 r ↔ DeadEnd src.grammar ws t
+  dead_end (full a) = ((λ x. let e = x.number in absurd (omega arith)), λ x. let e = x.room in absurd (omega arith))
+  dead_end (foreign a b) = ((λ x. let e = x.number in absurd (omega arith)), λ x. let e = x.terminal in absurd (omega arith))
+  dead_end {t = t} {ws = ws} (stuck a b c) = (
+    λ _. record { room = a; terminal = b; none = stuck_begins ws t b c },
+    λ _. record { number = refl; layer = refl },
+  )
+  dead_end {t = t} {ws = ws} (crowded a b c e) = (
+    λ x. let n = x.number in absurd (omega arith),
+    λ x. absurd (steps_begins ws t b c x.none),
+  )
+
+  -- A terminal that is taken begins some sentence with the kept words, and is no dead end.
+  pub taken_begins : {n t : ℕ} {ws : List ℕ} → Meets src n ws t None → Begins src.grammar (ws ++ t ∷ [])
+  taken_begins {t = t} {ws = ws} (taken a b c e) =
+      let (vs, x) = (viable src law.well_formed law.lawful ws t b).0 c in
+      (vs, rw append_assoc x)
+
+  pub taken_alive : {P : Type 0} {n t : ℕ} {ws : List ℕ} → Meets src n ws t None → DeadEnd src.grammar ws t → P
+  taken_alive m x = let (vs, y) = taken_begins m in absurd (x.none vs y)
+
   -- A terminal is refused as 45 exactly when no sentence begins with the kept words and it.
   pub meets_45 : {n t : ℕ} {ws : List ℕ} {o : Option Refusal} → Meets src n ws t o → length ws < 254 → t < src.grammar.terminals
       → (o ≡ Some (of_reading 45 (length ws) t)) ↔ NoneBegins src.grammar (ws ++ t ∷ [])
@@ -55,9 +77,9 @@ module _ {src : Source} (law : Sourced src) where
   )
   meets_45 {t = t} {ws = ws} (taken a b c e) lo hi = ((λ x. let z : ◌≡◌ {A = ℕ} 0 1 = cc in clash z), λ x. absurd (steps_begins ws t b c x))
 
--- The first place of a refusal of a terminal is the number of kept words.
-pub meets_place : {src : Source} {n t : ℕ} {ws : List ℕ} {r : Refusal} → Meets src n ws t (Some r) → r.first ≡ length ws
-meets_place (full a) = refl
-meets_place (foreign a b) = refl
-meets_place (stuck a b c) = refl
-meets_place (crowded a b c d) = refl
+-- The places of a 45 are the number of kept words and the terminal.
+pub places_45 : {src : Source} {n t : ℕ} {ws : List ℕ} {r : Refusal} → Meets src n ws t (Some r) → Numbered 45 r → r ≡ of_reading 45 (length ws) t
+places_45 (full a) x = let e = x.number in absurd (omega arith)
+places_45 (foreign a b) x = let e = x.number in absurd (omega arith)
+places_45 (stuck a b c) x = refl
+places_45 (crowded a b c d) x = let e = x.number in absurd (omega arith)

@@ -3,6 +3,9 @@
 --   Accepts src ws                 the link by which the words ws are judged is there
 --   Passes src n e ws cs a vs ds   reading through the coming words cs, which end with the fault e or without one, over the kept words ws
 --                                  answers a, and leaves the words vs kept and the words ds coming
+--   rest_of c ds                   what is left of the feed c: the words ds are coming
+--   blank_lists r ns bs            the reply r to a gather into the lists ns and bs, both left blank throughout
+--   written ns bs xs ys            the answer of a gather that writes the records xs and ys into the lists ns and bs, and counts them
 --   Does src m c a k               where m is held, the call c is answered by a, and k is held afterwards
 use Rattle.std.specs.Prelude.{◌≡◌, ℕ, ◌<◌, ◌≤◌, Bool, true, ◌↔◌, List, [], ◌∷◌, ◌++◌, length, take, replicate, Some, None, Option}
 use Rattle.grammar.specs.declared.refusal.Refusal.{Refusal}
@@ -11,9 +14,7 @@ use Rattle.parsing.specs.Items.{Source}
 use Rattle.parsing.specs.Links.{Linked}
 use Rattle.link_growth.specs.Counting.{Exceeds}
 use Rattle.words.specs.Feeds.{Coming}
-use Rattle.words.specs.Refusals.{refusal}
 use Rattle.words.specs.declared.word.Word.{Word}
-use Rattle.words.specs.declared.fault.FeedFault.{FeedFault}
 use Rattle.records.specs.Blanks.{blank_node, blank_alternative}
 use Rattle.records.specs.declared.node.Node.{Node}
 use Rattle.records.specs.declared.alternative.Alternative.{Alternative}
@@ -35,9 +36,9 @@ pub record Accepts (src : Source) (ws : List ℕ) : Type 0 where
   pub linked : Linked src ws state (length ws) src.first 0
 
 -- The words are taken one by one. At the first that is refused it stops: the words before it stay kept, and it has left the feed.
-pub data Passes (src : Source) (n : ℕ) (e : Option FeedFault) : List ℕ → List Word → Reply → List ℕ → List Word → Type 0 where
+pub data Passes (src : Source) (n : ℕ) (e : Option Refusal) : List ℕ → List Word → Reply → List ℕ → List Word → Type 0 where
   at_end : {ws : List ℕ} {b : Bool} → e ≡ None → (b ≡ true) ↔ Accepts src ws → Passes src n e ws [] (judged b) ws []
-  at_fault : {ws : List ℕ} {f : FeedFault} → e ≡ Some f → Passes src n e ws [] (refused (refusal f)) ws []
+  at_fault : {ws : List ℕ} {r : Refusal} → e ≡ Some r → Passes src n e ws [] (refused r) ws []
   word_no : {ws : List ℕ} {w : Word} {cs : List Word} {r : Refusal} → Meets src n ws w.terminal (Some r)
       → Passes src n e ws (w ∷ cs) (word_refused r w.from w.to) ws cs
   word_yes : {ws vs : List ℕ} {w : Word} {cs ds : List Word} {a : Reply} → Meets src n ws w.terminal None
@@ -50,6 +51,11 @@ rest_of c ds = record { words = ds; fault = c.fault }
 -- Both lists of a gather that has too little room, of either list.
 abbrev pub blank_lists : Reply → List Node → List Alternative → Answer
 blank_lists r ns bs = and_lists r (replicate (length ns) blank_node) (replicate (length bs) blank_alternative)
+
+-- Both lists of a gather that has room: the records, and blank ones past them.
+abbrev pub written : List Node → List Alternative → List Node → List Alternative → Answer
+written ns bs xs ys =
+    and_lists (counted (length xs) (length ys)) (filled xs (length ns) blank_node) (filled ys (length bs) blank_alternative)
 
 pub data Does (src : Source) : Held → Call → Answer → Held → Type 0 where
   -- Open: a refused one changes nothing, also where the reading is open already.
@@ -87,6 +93,4 @@ pub data Does (src : Source) : Held → Call → Answer → Held → Type 0 wher
       → Does src (opened n ws) (gather ns bs) (blank_lists (refused (of_reading 50 0 0)) ns bs) (opened n ws)
   gather_done : {n : ℕ} {ws : List ℕ} {ns xs : List Node} {bs ys : List Alternative} → Accepts src ws
       → Nodes src.grammar ws xs → length xs ≤ length ns → Alternatives src.grammar ws ys → length ys ≤ length bs
-      → Does src (opened n ws) (gather ns bs)
-      (and_lists (counted (length xs) (length ys)) (filled xs (length ns) blank_node) (filled ys (length bs) blank_alternative))
-      (opened n ws)
+      → Does src (opened n ws) (gather ns bs) (written ns bs xs ys) (opened n ws)

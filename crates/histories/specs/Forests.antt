@@ -2,16 +2,15 @@
 --   NodeOf g ws z          the node z occurs in some derivation of the words ws
 --   padded cs              the cuts cs, with 255 for the cuts that are not used
 --   AlternativeOf g ws z   the alternative z occurs in some derivation of the words ws
---   Lists o P xs           xs has the records with the property P and no other, each once, in the order o
+--   Lists R P xs           xs has the records with the property P and no other, each once, in the order R
 --   filled xs n x          the records xs in front of n slots, and x in the slots past them
 --   Nodes g ws xs, Alternatives g ws ys   the lists of the nodes and of the alternatives that occur in some derivation
 use Rattle.std.specs.Prelude.{◌≡◌, ℕ, ◌-◌, List, ◌++◌, length, replicate}
 use Rattle.std.specs.declared.cmp.Ordering.{Ordering}
-use Rattle.std.specs.Cmp.{IsTotalOrder}
 use Rattle.parsing.specs.Grammar.{Grammar, Sentence}
 use Rattle.parsing.specs.Forest.{Occurs, Uses}
-use Rattle.register.specs.Registers.{Has, Climbs}
-use Rattle.records.specs.Orders.{by_node, by_alternative}
+use Rattle.register.specs.Lists.{Has, Climbs}
+use Rattle.records.specs.Orders.{node_cmp, alternative_cmp}
 use Rattle.records.specs.declared.node.Node.{Node}
 use Rattle.records.specs.declared.alternative.Alternative.{Alternative}
 
@@ -28,8 +27,8 @@ pub record AlternativeOf (g : Grammar) (ws : List ℕ) (z : Alternative) : Type 
   pub uses : Uses derivation z.rule places
   pub cuts_are : z.cuts ≡ padded places
 
-pub record Lists {X : Type 0} {R : X → X → Ordering} (o : IsTotalOrder R) (P : X → Type 0) (xs : List X) : Type 0 where
-  pub order : Climbs o xs
+pub record Lists {X : Type 0} (R : X → X → Ordering) (P : X → Type 0) (xs : List X) : Type 0 where
+  pub order : Climbs R xs
   pub each : (z : X) → P z → Has xs z
   pub only : (z : X) → Has xs z → P z
 
@@ -37,7 +36,7 @@ abbrev pub filled : {X : Type 0} → List X → ℕ → X → List X
 filled xs n x = xs ++ replicate (n - length xs) x
 
 abbrev pub Nodes : Grammar → List ℕ → List Node → Type 0
-Nodes g ws xs = Lists by_node (NodeOf g ws) xs
+Nodes g ws xs = Lists node_cmp (NodeOf g ws) xs
 
 abbrev pub Alternatives : Grammar → List ℕ → List Alternative → Type 0
-Alternatives g ws ys = Lists by_alternative (AlternativeOf g ws) ys
+Alternatives g ws ys = Lists alternative_cmp (AlternativeOf g ws) ys

@@ -7,4 +7,5 @@ pub mod Doings
 pub mod Questions
 pub mod Histories
 pub mod Laws
+pub mod Continuations
 pub mod Statements

@@ -2,7 +2,7 @@
 --   AtMost P n     at most n different records have the property P: no list without repeats of such records is longer
 --   MoreThan P n   more than n different records have the property P: some list without repeats of such records is longer
 use Rattle.std.specs.Prelude.{ℕ, ◌<◌, ◌≤◌, List, length}
-use Rattle.register.specs.Registers.{Has, Apart}
+use Rattle.register.specs.Lists.{Has, Apart}
 
 abbrev pub AtMost : {X : Type 0} → (X → Type 0) → ℕ → Type 0
 AtMost {X} P n = (xs : List X) → Apart xs → ((z : X) → Has xs z → P z) → length xs ≤ n

@@ -7,8 +7,9 @@ use Rattle.table_format.specs.Tables.{RightStep, Matches, answered, source_of}
 use Rattle.table_format.proofs.Rows.{completed_one, completed_from, step_from, step_one, not_both, step_symbol}
 use Rattle.table_format.proofs.Sources.{lawful, bounded}
 use Rattle.table_format.proofs.Counting.{rows_each_once, set_count}
-use Rattle.known.specs.Lists.{Member}
-use Rattle.known.specs.Automata.{Transition, Automaton, states, row, step_byte, table, Proper, RowsAre, IsStep, StepsAre}
+use Rattle.link_growth.specs.Entries.{Mem, head, tail}
+use Rattle.states.specs.Sources.{Sourced}
+use Rattle.known.specs.Automata.{Transition, Automaton, states, row, step_byte, table, source, RowsAre, IsStep, StepsAre}
 use Rattle.known.proofs.Tests.{all_below, at_below, some_below, found_below, all_of, at_member}
 use Rattle.known.proofs.Members.{once?, is_once}
 use Rattle.known.proofs.RowBytes.{bytes?, inside, is_row}
@@ -27,19 +28,20 @@ abbrev pub transition_code : Transition → List ℕ
 transition_code t = t.state ∷ t.symbol ∷ t.to ∷ []
 
 -- A step byte other than 255 is told by a step.
-told_step : (ts : List Transition) (s X : ℕ) → step_byte ts s X < 255 → Member (record { state = s; symbol = X; to = step_byte ts s X }) ts
+told_step : (ts : List Transition) (s X : ℕ) → step_byte ts s X < 255 → Mem (record { state = s; symbol = X; to = step_byte ts s X }) ts
 told_step [] s X h = absurd (omega arith)
 told_step (t ∷ ts) s X h = go (told_step ts s X) (eqb t.state s && eqb t.symbol X) refl h
   where
-    go : (step_byte ts s X < 255 → Member (record { state = s; symbol = X; to = step_byte ts s X }) ts)
+    go : (step_byte ts s X < 255 → Mem (record { state = s; symbol = X; to = step_byte ts s X }) ts)
         → (c : Bool) → (eqb t.state s && eqb t.symbol X) ≡ c → cond c t.to (step_byte ts s X) < 255
-        → Member (record { state = s; symbol = X; to = cond c t.to (step_byte ts s X) }) (t ∷ ts)
+        → Mem (record { state = s; symbol = X; to = cond c t.to (step_byte ts s X) }) (t ∷ ts)
     go below true e h =
         let (a, b) = and_parts _ _ e in
         let p = eqb-true _ _ a in
         let q = eqb-true _ _ b in
-        inl (λ i. record { state = sym p i; symbol = sym q i; to = t.to })
-    go below false e h = inr (below h)
+        let same : t ≡ record { state = s; symbol = X; to = t.to } = λ i. record { state = p i; symbol = q i; to = t.to } in
+        subst (λ u. Mem u (t ∷ ts)) same head
+    go below false e h = tail (below h)
 
 module _ (a : Automaton) where
   abbrev g : Grammar
@@ -129,12 +131,18 @@ module _ (a : Automaton) where
     row_inside : (s : ℕ) → s < states a → Inside (rule_count g) (row a s)
     row_inside s h = inside (rule_count g) (get_or a.rows s []) (at_below (states a) _ pass.rows_pass s h)
 
-    first_row : FirstRow g (row a 0)
+    pub some_states : 0 < states a
+    some_states = pass.some
+
+    pub few_states : states a ≤ 255
+    few_states = pass.few
+
+    pub first_row : FirstRow g (row a 0)
     first_row =
         let some : 0 < rule_count g = omega (arith, wf.two_rules) in
         completed_from (first_completes g some (row a 0) (row_inside 0 pass.some) pass.first_passes)
 
-    right_step : (s X : ℕ) → s < states a → X < symbols g → RightStep g (states a) (row a) (row a s) X (step_byte a.steps s X)
+    pub right_step : (s X : ℕ) → s < states a → X < symbols g → RightStep g (states a) (row a) (row a s) X (step_byte a.steps s X)
     right_step s X h x =
         go (step_byte a.steps s X) (eqb (step_byte a.steps s X) 255) refl
         (at_below (symbols g) _ (at_below (states a) _ pass.steps_pass s h) X x)
@@ -152,7 +160,7 @@ module _ (a : Automaton) where
                   (step_completes g (row a s) X wf.short (row a b) (row_inside b b_in) v),
             )
 
-    one-to-one : (s u : ℕ) → s < states a → u < states a → row a s ≡ row a u → s ≡ u
+    pub one-to-one : (s u : ℕ) → s < states a → u < states a → row a s ≡ row a u → s ≡ u
     one-to-one s u hs hu q =
         elim (or_cases _ _ (at_below (states a) _ (at_below (states a) _ pass.rows_apart s hs) u hu)) [
           | inl x ↦ eqb-true _ _ x
@@ -188,7 +196,7 @@ module _ (a : Automaton) where
           | inr v ↦ (step_byte a.steps s X, v.0, step_one v.1 from)
         ]
 
-    matches : Matches g (table a) (row a)
+    pub matches : Matches g (table a) (row a)
     matches = record {
       item_sets = λ s h. ∣ item_set (suc s) s (omega arith) h ∣₁;
       one-to-one = one-to-one;
@@ -198,11 +206,18 @@ module _ (a : Automaton) where
       marks = λ s r h l. refl;
     }
 
-    pub is_proper : Proper a
-    is_proper = record {
-      well_formed = wf;
+    pub is_sourced : 1 ≤ g.terminals → g.terminals ≤ 40 → 2 ≤ g.nonterminals → g.nonterminals ≤ 24 → Sourced (source a)
+    unfolding source_of
+    is_sourced t u n m = record {
       lawful = lawful right_sides pass.few matches;
       bounded = bounded g (table a) (row a);
+      some_states = pass.some;
+      few_states = pass.few;
+      well_formed = wf;
+      some_terminals = t;
+      few_terminals = u;
+      some_nonterminals = n;
+      few_nonterminals = m;
     }
 
     pub rows_are : RowsAre a
@@ -220,7 +235,7 @@ module _ (a : Automaton) where
       symbol_in : t.symbol < symbols g
       low : t.to < 255
 
-    found_step : (t : Transition) → Member t a.steps → Found t
+    found_step : (t : Transition) → Mem t a.steps → Found t
     found_step t m =
         let (p, x) = and_parts _ _ (at_member _ t a.steps pass.all_listed m) in
         let (q, y) = and_parts _ _ x in
@@ -232,7 +247,7 @@ module _ (a : Automaton) where
           low = ltb-true _ _ v;
         }
 
-    is_step : (t : Transition) → Member t a.steps → IsStep a t
+    is_step : (t : Transition) → Mem t a.steps → IsStep a t
     is_step t m =
         let f = found_step t m in
         elim (right_step t.state t.symbol f.state_in f.symbol_in) [
@@ -244,14 +259,14 @@ module _ (a : Automaton) where
           }
         ]
 
-    step_listed : (t : Transition) → IsStep a t → Member t a.steps
+    step_listed : (t : Transition) → IsStep a t → Mem t a.steps
     step_listed t s =
         let b = step_byte a.steps t.state t.symbol in
         elim (right_step t.state t.symbol s.from_in (step_symbol right_sides s.step)) [
           | inl v ↦ absurd (not_both s.step v.1)
           | inr v ↦
               let same : b ≡ t.to = one-to-one b t.to v.0 s.to_in (step_one v.1 s.step) in
-              subst (λ u. Member (record { state = t.state; symbol = t.symbol; to = u }) a.steps) same
+              subst (λ u. Mem (record { state = t.state; symbol = t.symbol; to = u }) a.steps) same
               (told_step a.steps t.state t.symbol (omega (arith, v.0, pass.few)))
         ]
 
@@ -262,7 +277,8 @@ module _ (a : Automaton) where
     pub steps_are : StepsAre a
     unfolding source_of
     steps_are = record {
-      steps = record { holds = λ t. (step_listed t, is_step t); once = is_once transition_code a.steps pass.once };
+      once = is_once transition_code a.steps pass.once;
+      steps = λ t. (step_listed t, is_step t);
       answers = λ t. (
         answer_listed t (answers? t) refl,
         λ m.
@@ -272,11 +288,11 @@ module _ (a : Automaton) where
     }
       where
         answer_listed : (t : Transition) (c : Bool) → answers? t ≡ c
-            → answered c (step_byte a.steps t.state t.symbol) ≡ Some t.to → Member t a.steps
+            → answered c (step_byte a.steps t.state t.symbol) ≡ Some t.to → Mem t a.steps
         answer_listed t true q e =
             let same : step_byte a.steps t.state t.symbol ≡ t.to = cc in
             let (_, x) = and_parts _ _ q in
             let (_, y) = and_parts (ltb t.symbol (symbols g)) _ x in
-            subst (λ u. Member (record { state = t.state; symbol = t.symbol; to = u }) a.steps) same
+            subst (λ u. Mem (record { state = t.state; symbol = t.symbol; to = u }) a.steps) same
             (told_step a.steps t.state t.symbol (ltb-true _ _ y))
         answer_listed t false q e = let z : ◌≡◌ {A = ℕ} 0 1 = cc in absurd (omega arith)

@@ -1,12 +1,12 @@
 -- Derivations are found among given alternatives, and so are the nodes and alternatives that are reached from the top.
-use Rattle.std.proofs.Common.{◌≡◌, ℕ, zero, suc, ◌+◌, ◌<◌, Bool, true, ◌&&◌, ◌||◌, eqb, ltb, leb, List, [], ◌∷◌, length, get_or, sym, refl, subst, inl, inr, arith}
+use Rattle.std.proofs.Common.{◌≡◌, ℕ, zero, suc, ◌+◌, ◌<◌, Bool, true, ◌&&◌, ◌||◌, eqb, ltb, leb, List, [], ◌∷◌, length, get_or, take, sym, refl, subst, inl, inr, arith}
 use mathlib.Core.Path.{subst₃}
 use Rattle.std.proofs.lemmas.Bool.{and_parts, and_from, or_cases, eqb-true, eq-eqb, ltb-true, lt-ltb, leb-true}
 use Rattle.parsing.specs.Grammar.{Grammar, rule_count, lhs, rhs, start, Nonterminal}
 use Rattle.parsing.specs.Grammar.{Derivation, word, node, Parts, end, part}
 use Rattle.parsing.specs.Forest.{cuts, Reached, top, child, ReachedAlternative}
 use Rattle.parsing.specs.Forest.{Alternative as IsAlternative}
-use Rattle.known.specs.Orders.{Alternative}
+use Rattle.records.specs.declared.alternative.Alternative.{Alternative}
 use Rattle.known.proofs.Tests.{all_below, at_below, some_below, found_below, some_of, found_member}
 
 -- Derivations between the cuts are parts with these cuts.
@@ -51,7 +51,7 @@ module _ (g : Grammar) (ws : List ℕ) where
   abbrev Derives : (ℕ → ℕ → ℕ → Bool) → Type 0
   Derives dv = (X i j : ℕ) → dv X i j ≡ true → Derivation g ws X i j
 
-  -- The left symbol of an alternative, the number of its parts, their symbols, and its cuts.
+  -- The left symbol of an alternative, the number of its parts, their symbols, and the cuts that it uses.
   abbrev left : Alternative → ℕ
   left a = lhs g a.rule
 
@@ -61,16 +61,19 @@ module _ (g : Grammar) (ws : List ℕ) where
   abbrev symbol : Alternative → ℕ → ℕ
   symbol a p = get_or (rhs g a.rule) p 0
 
+  abbrev pub places : Alternative → List ℕ
+  places a = take (suc (parts a)) a.cuts
+
   abbrev cut : Alternative → ℕ → ℕ
-  cut a p = get_or a.cuts p 0
+  cut a p = get_or (places a) p 0
 
   -- The parts of an alternative pass such a test.
   abbrev alternative? : (ℕ → ℕ → ℕ → Bool) → Alternative → Bool
   alternative? dv a =
-      (ltb a.rule (rule_count g) && eqb (length a.cuts) (suc (parts a)))
+      (ltb a.rule (rule_count g) && eqb (length (places a)) (suc (parts a)))
       && all_below (parts a) (λ p. dv (symbol a p) (cut a p) (cut a (suc p)))
 
-  is_alternative : (dv : ℕ → ℕ → ℕ → Bool) → Derives dv → (a : Alternative) → alternative? dv a ≡ true → IsAlternative g ws a.rule a.cuts
+  is_alternative : (dv : ℕ → ℕ → ℕ → Bool) → Derives dv → (a : Alternative) → alternative? dv a ≡ true → IsAlternative g ws a.rule (places a)
   is_alternative dv f a e =
       let (x, y) = and_parts _ _ e in
       let (h, l) = and_parts _ _ x in
@@ -100,7 +103,7 @@ module _ (g : Grammar) (ws : List ℕ) where
               let (m, z) = and_parts _ _ y in
               let (p, q, r) = three _ _ _ _ _ _ m in
               let al = is_alternative (derives? n) (it_derives n) a z in
-              subst₃ (Derivation g ws) p q r (node a.rule al.rule_in refl (build (rhs g a.rule) a.cuts al.count al.derives).0)
+              subst₃ (Derivation g ws) p q r (node a.rule al.rule_in refl (build (rhs g a.rule) (places a) al.count al.derives).0)
         ]
 
     -- What is reached from the top through alternatives of the list, whose parts derive by at most `nested` of them.
@@ -139,14 +142,14 @@ module _ (g : Grammar) (ws : List ℕ) where
                 let (f, k) = and_parts _ _ c in
                 let non : Nonterminal g (symbol a p) = subst (Nonterminal g) (sym q) (record { low = leb-true _ _ u; high = ltb-true _ _ v }) in
                 subst₃ (Reached g ws) q r s
-                (child a.rule a.cuts p (is_alternative (derives? nested) (it_derives nested) a f) (is_reached n _ _ _ k) l non)
+                (child a.rule (places a) p (is_alternative (derives? nested) (it_derives nested) a f) (is_reached n _ _ _ k) l non)
           ]
 
       abbrev pub reached_alternative? : ℕ → Alternative → Bool
       reached_alternative? n a =
           alternative? (derives? nested) a && reached? n (left a) (cut a 0) (cut a (parts a))
 
-      pub is_reached_alternative : (n : ℕ) (a : Alternative) → reached_alternative? n a ≡ true → ReachedAlternative g ws a.rule a.cuts
+      pub is_reached_alternative : (n : ℕ) (a : Alternative) → reached_alternative? n a ≡ true → ReachedAlternative g ws a.rule (places a)
       is_reached_alternative n a e =
           let (x, y) = and_parts _ _ e in
           (is_alternative (derives? nested) (it_derives nested) a x, is_reached n _ _ _ y)

@@ -1,5 +1,6 @@
 -- Lists of nodes and alternatives that are closed downwards hold all that occurs in the derivations of the words.
-use Rattle.std.proofs.Common.{◌≡◌, ℕ, suc, ◌≤◌, Bool, true, ◌&&◌, ◌||◌, eqb, leb, List, [], ◌∷◌, length, get_or, refl, subst, arith}
+use Rattle.std.proofs.Common.{◌≡◌, ℕ, suc, ◌-◌, ◌<◌, ◌≤◌, Bool, true, ◌&&◌, ◌||◌, eqb, leb, List, [], ◌∷◌, length, get_or, replicate, sym, refl, subst, subst₂, arith}
+use Rattle.std.proofs.lemmas.List.{get_or_append_left}
 use Rattle.std.proofs.lemmas.Bool.{and_parts, or_left, or_right, eq-eqb, leb-true, le-leb}
 use Rattle.parsing.specs.Grammar.{Grammar, rule_count, lhs, rhs, goal, start, Sentence, WellFormed}
 use Rattle.parsing.specs.Grammar.{Derivation, word, node, Parts, end, part}
@@ -7,18 +8,20 @@ use Rattle.parsing.specs.Forest.{cuts, Reached, top, child}
 use Rattle.parsing.specs.Forest.{Alternative as IsAlternativeOf}
 use Rattle.parsing.proofs.Derivations.{parts_forward}
 use Rattle.parsing.proofs.Forest.{forest_nodes, forest_alternatives}
-use Rattle.known.specs.Lists.{Member, Exactly}
-use Rattle.known.specs.Orders.{Node, Alternative}
-use Rattle.known.specs.Readings.{IsNode, IsAlternative}
+use Rattle.link_growth.specs.Entries.{Mem}
+use Rattle.records.specs.Orders.{node_cmp, alternative_cmp}
+use Rattle.records.specs.declared.node.Node.{Node}
+use Rattle.records.specs.declared.alternative.Alternative.{Alternative}
+use Rattle.histories.specs.Forests.{NodeOf, padded, AlternativeOf, Nodes, Alternatives}
 use Rattle.known.proofs.Tests.{implies, implied, all_below, at_below, all_of, at_member}
-use Rattle.known.proofs.Members.{member?, is_member, once?, is_once}
-use Rattle.known.proofs.Derivations.{build, word?, word_is, reached?, is_reached, reached_alternative?, is_reached_alternative}
+use Rattle.known.proofs.Members.{same_numbers, numbers_same, member?, is_member, mem_has, has_mem, climbs?, is_climbing}
+use Rattle.known.proofs.Derivations.{build, places, word?, word_is, reached?, is_reached, reached_alternative?, is_reached_alternative}
 
 abbrev nd : ℕ → ℕ → ℕ → Node
 nd X i j = record { symbol = X; from = i; to = j }
 
 abbrev alt : ℕ → List ℕ → Alternative
-alt r cs = record { rule = r; cuts = cs }
+alt r cs = record { rule = r; cuts = padded cs }
 
 abbrev pub node_code : Node → List ℕ
 node_code n = n.symbol ∷ n.from ∷ n.to ∷ []
@@ -38,6 +41,10 @@ alternative_told x y e =
     let a : x.rule ≡ y.rule = cc in
     let b : x.cuts ≡ y.cuts = cc in
     λ i. record { rule = a i; cuts = b i }
+
+-- Padding changes no cut that is used.
+cut_used : (cs : List ℕ) (p : ℕ) → p < length cs → get_or (padded cs) p 0 ≡ get_or cs p 0
+cut_used cs p h = get_or_append_left cs (replicate (8 - length cs) 255) 0 p h
 
 module _ (g : Grammar) (ws : List ℕ) (ns : List Node) (alts : List Alternative) where
   -- What may derive words, up to their end: the goal, a word, a node of the list.
@@ -107,63 +114,93 @@ module _ (g : Grammar) (ws : List ℕ) (ns : List Node) (alts : List Alternative
         let (c, d) = and_parts _ _ y in
         record { fitting = a; top_listed = b; nodes_pass = c; parts_pass = d }
 
-    alternative_listed : (r : ℕ) (cs : List ℕ) → IsAlternativeOf g ws r cs → Member (nd (lhs g r) (get_or cs 0 0) (get_or cs (length (rhs g r)) 0)) ns
-        → Member (alt r cs) alts
+    alternative_listed : (r : ℕ) (cs : List ℕ) → IsAlternativeOf g ws r cs → Mem (nd (lhs g r) (get_or cs 0 0) (get_or cs (length (rhs g r)) 0)) ns
+        → Mem (alt r cs) alts
     alternative_listed r cs a m =
         let x = nd (lhs g r) (get_or cs 0 0) (get_or cs (length (rhs g r)) 0) in
         let (u, v) = and_parts _ _ (at_member node? x ns pass.nodes_pass m) in
         let (ps, q) = build (rhs g r) cs a.count a.derives in
         let all = implied _ _ (at_below (rule_count g) _ v r a.rule_in) (eq-eqb _ _ refl) in
         let found = implied _ _ (at_cuts pass.fitting (listed? x r) all ps (leb-true _ _ u)) (eq-eqb _ _ refl) in
-        subst (λ bs. Member (alt r bs) alts) q (is_member alternative_code alternative_told (alt r (cuts ps)) alts found)
+        subst (λ bs. Mem (alt r bs) alts) q (is_member alternative_code alternative_told (alt r (cuts ps)) alts found)
 
-    reached_listed : {X i j : ℕ} → Reached g ws X i j → Member (nd X i j) ns
+    reached_listed : {X i j : ℕ} → Reached g ws X i j → Mem (nd X i j) ns
     reached_listed top = is_member node_code node_told (nd (start g) 0 (length ws)) ns pass.top_listed
     reached_listed (child r cs p a x l n) =
         let m = alternative_listed r cs a (reached_listed x) in
         let X = get_or (rhs g r) p 0 in
         let t = at_below (length (rhs g r)) _ (at_member parts? (alt r cs) alts pass.parts_pass m) p l in
-        is_member node_code node_told (nd X (get_or cs p 0) (get_or cs (suc p) 0)) ns
-        (implied _ _ t (le-leb _ _ n.low))
+        let found = is_member node_code node_told (nd X (get_or (padded cs) p 0) (get_or (padded cs) (suc p) 0)) ns
+        (implied _ _ t (le-leb _ _ n.low)) in
+        subst₂ (λ i j. Mem (nd X i j) ns) (cut_used cs p (omega (arith, a.count))) (cut_used cs (suc p) (omega (arith, a.count))) found
 
-  -- They are reached from the top. No derivation of ours has more than three alternatives nested.
+  -- They are reached from the top, and the cuts that an alternative does not use are 255. No derivation of ours has more than three
+  -- alternatives nested.
   abbrev reached_node? : Node → Bool
   reached_node? x = reached? g ws alts 3 3 x.symbol x.from x.to
 
+  abbrev padded? : Alternative → Bool
+  padded? a = same_numbers a.cuts (padded (places g ws a))
+
   abbrev upwards? : Bool
-  upwards? = all_of reached_node? ns && all_of (reached_alternative? g ws alts 3 3) alts
+  upwards? = all_of reached_node? ns && (all_of (reached_alternative? g ws alts 3 3) alts && all_of padded? alts)
+
+  abbrev ordered? : Bool
+  ordered? = climbs? node_cmp ns && climbs? alternative_cmp alts
 
   abbrev pub forest? : Bool
-  forest? = (downwards? && upwards?) && (once? node_code ns && once? alternative_code alts)
+  forest? = downwards? && (upwards? && ordered?)
 
   module _ (wf : WellFormed g) (s : Sentence g ws) (e : forest? ≡ true) where
-    checked : (downwards? ≡ true) × (upwards? ≡ true)
-    checked = and_parts _ _ (and_parts _ _ e).0
+    record Passed : Type 0 where
+      downwards : downwards? ≡ true
+      nodes_up : all_of reached_node? ns ≡ true
+      alternatives_up : all_of (reached_alternative? g ws alts 3 3) alts ≡ true
+      all_padded : all_of padded? alts ≡ true
+      nodes_climb : climbs? node_cmp ns ≡ true
+      alternatives_climb : climbs? alternative_cmp alts ≡ true
 
-    apart : (once? node_code ns ≡ true) × (once? alternative_code alts ≡ true)
-    apart = and_parts _ _ (and_parts _ _ e).1
+    passed : Passed
+    passed =
+        let (a, x) = and_parts _ _ e in
+        let (y, z) = and_parts _ _ x in
+        let (b, u) = and_parts _ _ y in
+        let (c, d) = and_parts _ _ u in
+        let (f, h) = and_parts _ _ z in
+        record { downwards = a; nodes_up = b; alternatives_up = c; all_padded = d; nodes_climb = f; alternatives_climb = h }
 
-    up : (all_of reached_node? ns ≡ true) × (all_of (reached_alternative? g ws alts 3 3) alts ≡ true)
-    up = and_parts _ _ checked.1
+    node_of : (x : Node) → Mem x ns → NodeOf g ws x
+    node_of x m =
+        let (d, o) = (forest_nodes wf x.symbol x.from x.to s).0 (is_reached g ws alts 3 3 _ _ _ (at_member reached_node? x ns passed.nodes_up m)) in
+        record { derivation = d; occurs = o }
 
-    pub nodes_exactly : Exactly (IsNode g ws) ns
-    nodes_exactly = record {
-      holds = λ x. (
-        λ o. reached_listed checked.0 ((forest_nodes wf x.symbol x.from x.to s).1 o),
-        λ m. (forest_nodes wf x.symbol x.from x.to s).0 (is_reached g ws alts 3 3 _ _ _ (at_member reached_node? x ns up.0 m)),
-      );
-      once = is_once node_code ns apart.0;
+    alternative_of : (a : Alternative) → Mem a alts → AlternativeOf g ws a
+    alternative_of a m =
+        let up = is_reached_alternative g ws alts 3 3 a (at_member (reached_alternative? g ws alts 3 3) a alts passed.alternatives_up m) in
+        let (d, u) = (forest_alternatives wf a.rule (places g ws a) s).0 up in
+        record {
+          derivation = d;
+          places = places g ws a;
+          uses = u;
+          cuts_are = numbers_same a.cuts (padded (places g ws a)) (at_member padded? a alts passed.all_padded m);
+        }
+
+    listed_alternative : (a : Alternative) → AlternativeOf g ws a → Mem a alts
+    listed_alternative a u =
+        let x = (forest_alternatives wf a.rule u.places s).1 (u.derivation, u.uses) in
+        subst (λ cs. Mem (record { rule = a.rule; cuts = cs }) alts) (sym u.cuts_are)
+        (alternative_listed passed.downwards a.rule u.places x.0 (reached_listed passed.downwards x.1))
+
+    pub nodes_are : Nodes g ws ns
+    nodes_are = record {
+      order = is_climbing node_cmp ns passed.nodes_climb;
+      each = λ x o. mem_has (reached_listed passed.downwards ((forest_nodes wf x.symbol x.from x.to s).1 (o.derivation, o.occurs)));
+      only = λ x h. node_of x (has_mem h);
     }
 
-    pub alternatives_exactly : Exactly (IsAlternative g ws) alts
-    alternatives_exactly = record {
-      holds = λ a. (
-        λ u.
-            let x = (forest_alternatives wf a.rule a.cuts s).1 u in
-            alternative_listed checked.0 a.rule a.cuts x.0 (reached_listed checked.0 x.1),
-        λ m.
-            (forest_alternatives wf a.rule a.cuts s).0
-            (is_reached_alternative g ws alts 3 3 a (at_member (reached_alternative? g ws alts 3 3) a alts up.1 m)),
-      );
-      once = is_once alternative_code alts apart.1;
+    pub alternatives_are : Alternatives g ws alts
+    alternatives_are = record {
+      order = is_climbing alternative_cmp alts passed.alternatives_climb;
+      each = λ a u. mem_has (listed_alternative a u);
+      only = λ a h. alternative_of a (has_mem h);
     }

@@ -2,7 +2,7 @@
 use Rattle.std.proofs.Common.{◌≡◌, ℕ, ◌+◌, ◌<◌, ◌≤◌, Bool, true, not, ◌&&◌, eqb, ltb, leb, List, length, get_or}
 use Rattle.std.proofs.lemmas.Bool.{and_parts, eqb-true, eq-eqb, ltb-true, leb-true, le-leb, not-true, both_ways}
 use Rattle.parsing.specs.Grammar.{Grammar, rule_count, lhs, rhs, goal, start, Nonterminal, WellFormed}
-use Rattle.known.specs.Orders.{Alternative}
+use Rattle.records.specs.declared.alternative.Alternative.{Alternative}
 use Rattle.known.proofs.Tests.{implies, implied, all_below, at_below}
 use Rattle.known.proofs.Derivations.{derives?, it_derives}
 

@@ -4,8 +4,10 @@ pub mod Links
 pub mod Completing
 pub mod RowBytes
 pub mod Automata
+pub mod Walking
 pub mod Derivations
 pub mod Grammars
 pub mod Forests
 pub mod Readings
+pub mod Meeting
 pub mod Theorem

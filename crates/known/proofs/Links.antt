@@ -1,18 +1,16 @@
 -- A list of links that is grounded and saturated holds exactly the links.
-use Rattle.std.proofs.Common.{◌≡◌, ℕ, zero, suc, Bool, true, false, ◌&&◌, ◌||◌, eqb, ltb, List, [], ◌∷◌, length, get_or, Some, None, Option, sym, refl, ap, subst, subst₂, inl, inr, arith}
+use Rattle.std.proofs.Common.{◌≡◌, ℕ, zero, suc, Bool, true, false, ◌&&◌, ◌||◌, eqb, ltb, List, [], ◌∷◌, length, get_or, Some, None, Option, refl, ap, subst, subst₂, inl, inr, arith}
 use Rattle.std.proofs.lemmas.Bool.{and_parts, and_from, or_cases, eqb-true, eq-eqb, ltb-true, lt-ltb, false≢true}
 use Rattle.parsing.specs.Grammar.{rule_count, lhs, rhs}
 use Rattle.parsing.specs.Items.{Source}
-use Rattle.parsing.specs.Links.{shift, reduce, Live, bottom, linked, Chain, stay, down}
+use Rattle.parsing.specs.Links.{Linked, shift, reduce, Live, bottom, linked, Chain, stay, down}
 use Rattle.parsing.specs.Links.{ChainOf, stay_of, down_of, LiveOf, Saturated}
 use Rattle.parsing.proofs.Least.{linked_least}
-use Rattle.known.specs.Lists.{Member, Exactly}
-use Rattle.known.specs.Readings.{Link, IsLink}
+use Rattle.link_growth.specs.declared.Link.{Link}
+use Rattle.link_growth.specs.Entries.{lnk, Mem, head, tail, Has}
+use Rattle.link_growth.specs.Counting.{Exact}
 use Rattle.known.proofs.Tests.{implies, implied, all_below, at_below, some_below, found_below, all_of, at_member, some_of, found_member}
 use Rattle.known.proofs.Members.{member?, is_member, once?, is_once}
-
-abbrev lnk : ℕ → ℕ → ℕ → ℕ → Link
-lnk s j b i = record { state = s; place = j; below = b; below_place = i }
 
 abbrev pub link_code : Link → List ℕ
 link_code k = k.state ∷ k.place ∷ k.below ∷ k.below_place ∷ []
@@ -68,7 +66,7 @@ module _ (src : Source) (ws : List ℕ) where
 
   module _ (ks : List Link) where
     abbrev K : ℕ → ℕ → ℕ → ℕ → Type 0
-    K s j b i = Member (lnk s j b i) ks
+    K = Has ks
 
     at_live : (p : ℕ → ℕ → Bool) (b i : ℕ) → all_live ks p ≡ true → LiveOf src K b i → p b i ≡ true
     at_live p b i e (inl x) = rw (x.0, x.1) (and_parts _ _ e).0
@@ -135,8 +133,11 @@ module _ (src : Source) (ws : List ℕ) where
   grounded? known [] = true
   grounded? known (k ∷ ks) = made? known k && grounded? (k ∷ known) ks
 
+  abbrev IsLink : Link → Type 0
+  IsLink k = Linked src ws k.state k.place k.below k.below_place
+
   abbrev AllLinks : List Link → Type 0
-  AllLinks ks = (k : Link) → Member k ks → IsLink src ws k
+  AllLinks ks = (k : Link) → Mem k ks → IsLink k
 
   module _ (ks : List Link) (known : AllLinks ks) where
     is_live : (b i : ℕ) → live? ks b i ≡ true → Live src ws b i
@@ -157,7 +158,7 @@ module _ (src : Source) (ws : List ℕ) where
         let (p, q) = two k.state t k.place j u in
         subst₂ (λ t j. Chain src ws (suc m) t j b i) p q (down (known k x) (is_chain m k.below k.below_place b i v))
 
-    is_made : (k : Link) → made? ks k ≡ true → IsLink src ws k
+    is_made : (k : Link) → made? ks k ≡ true → IsLink k
     is_made k e =
         let (l, x) = and_parts _ _ e in
         let live = is_live k.below k.below_place l in
@@ -178,18 +179,20 @@ module _ (src : Source) (ws : List ℕ) where
               (is_answer _ _ a)
         ]
 
+  more_links : (x : Link) (xs : List Link) → IsLink x → AllLinks xs → AllLinks (x ∷ xs)
+  more_links x xs l f k head = l
+  more_links x xs l f k (tail m) = f k m
+
   are_links : (known ks : List Link) → AllLinks known → grounded? known ks ≡ true → AllLinks ks
-  are_links known [] f e k m = absurd m
+  are_links known [] f e k m = elim m [ ]
   are_links known (x ∷ xs) f e k m =
       let (a, b) = and_parts _ _ e in
-      let here = is_made known f x a in
-      elim m [
-        | inl q ↦ subst (IsLink src ws) (sym q) here
-        | inr q ↦ are_links (x ∷ known) xs (λ y z. elim z [ inl s ↦ subst (IsLink src ws) (sym s) here | inr s ↦ f y s ]) b k q
-      ]
+      let l = is_made known f x a in
+      more_links x xs l (are_links (x ∷ known) xs (more_links x known l f) b) k m
 
-  pub links_exactly : (ks : List Link) → grounded? [] ks ≡ true → saturated? ks ≡ true → once? link_code ks ≡ true → Exactly (IsLink src ws) ks
-  links_exactly ks g s o = record {
-    holds = λ k. ((λ l. linked_least k.place (λ j h. is_saturated ks s j) l (omega arith)), are_links [] ks (λ x m. absurd m) g k);
-    once = is_once link_code ks o;
+  pub links_exactly : (ks : List Link) → grounded? [] ks ≡ true → saturated? ks ≡ true → once? link_code ks ≡ true → Exact src ws ks
+  links_exactly ks grounded saturated once = record {
+    once = is_once link_code ks once;
+    sound = λ s j b i m. are_links [] ks (λ x n. elim n [ ]) grounded (lnk s j b i) m;
+    whole = λ s j b i l. linked_least j (λ k h. is_saturated ks saturated k) l (omega arith);
   }

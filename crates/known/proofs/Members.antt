@@ -1,8 +1,10 @@
--- Entries that are told by numbers: tests for members, for repeats and for the order, and the number of entries.
-use Rattle.std.proofs.Common.{◌≡◌, ℕ, suc, ◌≤◌, Bool, true, false, not, ◌&&◌, ◌||◌, eqb, ltb, List, [], ◌∷◌, length, sym, refl, ◌∙◌, subst, ap₂, inl, inr, arith}
-use Rattle.std.proofs.lemmas.Bool.{and_parts, and_from, or_cases, or_left, or_right, eqb-true, eq-eqb, ltb-true, not-true, both_ways, false≢true}
-use Rattle.known.specs.Lists.{Member, Once}
-use Rattle.known.specs.Orders.{Before, ends, lower, later, Ascends}
+-- Entries that are told by numbers: tests for members, for repeats and for the order.
+use Rattle.std.proofs.Common.{◌≡◌, ℕ, zero, suc, Bool, true, false, not, ◌&&◌, eqb, List, [], ◌∷◌, get_or, Ordering, Less, sym, refl, subst, ap₂, arith}
+use Rattle.std.specs.Ordering.{is_lt}
+use Rattle.std.proofs.lemmas.Bool.{and_parts, and_from, or_left, or_right, eqb-true, eq-eqb, not-true, both_ways, false≢true}
+use Rattle.link_growth.specs.Entries.{Mem, head, tail, Once, nil, cons}
+use Rattle.link_growth.proofs.Members.{mem_at}
+use Rattle.register.specs.Lists.{Has, Climbs}
 use Rattle.known.proofs.Tests.{all_of, some_of, at_member, found_member}
 
 abbrev pub same_numbers : List ℕ → List ℕ → Bool
@@ -11,7 +13,7 @@ same_numbers [] (y ∷ ys) = false
 same_numbers (x ∷ xs) [] = false
 same_numbers (x ∷ xs) (y ∷ ys) = eqb x y && same_numbers xs ys
 
-numbers_same : (xs ys : List ℕ) → same_numbers xs ys ≡ true → xs ≡ ys
+pub numbers_same : (xs ys : List ℕ) → same_numbers xs ys ≡ true → xs ≡ ys
 numbers_same [] [] e = refl
 numbers_same [] (y ∷ ys) e = absurd (false≢true e)
 numbers_same (x ∷ xs) [] e = absurd (false≢true e)
@@ -19,7 +21,7 @@ numbers_same (x ∷ xs) (y ∷ ys) e =
     let (a, b) = and_parts _ _ e in
     ap₂ (λ z zs. z ∷ zs) (eqb-true _ _ a) (numbers_same xs ys b)
 
-same_self : (xs : List ℕ) → same_numbers xs xs ≡ true
+pub same_self : (xs : List ℕ) → same_numbers xs xs ≡ true
 same_self [] = refl
 same_self (x ∷ xs) = and_from _ _ (eq-eqb _ _ refl) (same_self xs)
 
@@ -32,74 +34,46 @@ module _ {A : Type 0} (code : A → List ℕ) where
   once? [] = true
   once? (x ∷ xs) = not (member? x xs) && once? xs
 
-  pub is_member : ((x y : A) → code x ≡ code y → x ≡ y) → (x : A) (ys : List A) → member? x ys ≡ true → Member x ys
+  pub is_member : ((x y : A) → code x ≡ code y → x ≡ y) → (x : A) (ys : List A) → member? x ys ≡ true → Mem x ys
   is_member told x ys e =
       let (y, m, q) = found_member (λ y. same_numbers (code x) (code y)) ys e in
-      subst (λ z. Member z ys) (sym (told x y (numbers_same (code x) (code y) q))) m
+      subst (λ z. Mem z ys) (sym (told x y (numbers_same (code x) (code y) q))) m
 
-  member_is : (x : A) (ys : List A) → Member x ys → member? x ys ≡ true
-  member_is x [] m = absurd m
-  member_is x (y ∷ ys) (inl e) = or_left _ _ (subst (λ z. same_numbers (code x) (code z) ≡ true) e (same_self (code x)))
-  member_is x (y ∷ ys) (inr m) = or_right _ _ (member_is x ys m)
+  member_is : (x : A) (ys : List A) → Mem x ys → member? x ys ≡ true
+  member_is x [] m = elim m [ ]
+  member_is x (y ∷ ys) head = or_left _ _ (same_self (code x))
+  member_is x (y ∷ ys) (tail m) = or_right _ _ (member_is x ys m)
 
   pub is_once : (xs : List A) → once? xs ≡ true → Once xs
-  is_once [] e = tt
+  is_once [] e = nil
   is_once (x ∷ xs) e =
       let (a, b) = and_parts _ _ e in
-      ((λ m. both_ways _ (not-true _ a) (member_is x xs m)), is_once xs b)
+      cons (λ m. both_ways _ (not-true _ a) (member_is x xs m)) (is_once xs b)
 
-abbrev before? : List ℕ → List ℕ → Bool
-before? [] [] = false
-before? [] (y ∷ ys) = true
-before? (x ∷ xs) [] = false
-before? (x ∷ xs) (y ∷ ys) = ltb x y || (eqb x y && before? xs ys)
+-- Members are what stands at the places of a list.
+pub mem_has : {A : Type 0} {x : A} {xs : List A} → Mem x xs → Has xs x
+mem_has head = (0, omega arith, λ d. refl)
+mem_has (tail m) = let (k, h, e) = mem_has m in (suc k, omega arith, e)
 
-is_before : (xs ys : List ℕ) → before? xs ys ≡ true → Before xs ys
-is_before [] [] e = absurd (false≢true e)
-is_before [] (y ∷ ys) e = ends
-is_before (x ∷ xs) [] e = absurd (false≢true e)
-is_before (x ∷ xs) (y ∷ ys) e =
-    elim (or_cases _ _ e) [
-      | inl a ↦ lower (ltb-true _ _ a)
-      | inr b ↦
-          let (c, d) = and_parts _ _ b in
-          subst (λ z. Before (x ∷ xs) (z ∷ ys)) (eqb-true _ _ c) (later (is_before xs ys d))
-    ]
+pub has_mem : {A : Type 0} {x : A} {xs : List A} → Has xs x → Mem x xs
+has_mem {x = x} {xs = xs} (k, h, e) = subst (λ v. Mem v xs) (e x) (mem_at xs k x h)
 
-module _ {A : Type 0} (key : A → List ℕ) where
-  abbrev pub ascends? : List A → Bool
-  ascends? [] = true
-  ascends? (x ∷ xs) = all_of (λ y. before? (key x) (key y)) xs && ascends? xs
+less : (c : Ordering) → is_lt c ≡ true → c ≡ Less
+less Ordering.Less e = refl
+less Ordering.Equal e = absurd (false≢true e)
+less Ordering.Greater e = absurd (false≢true e)
 
-  pub is_ascending : (xs : List A) → ascends? xs ≡ true → Ascends key xs
-  is_ascending [] e = tt
-  is_ascending (x ∷ xs) e =
-      let (a, b) = and_parts _ _ e in
-      ((λ y m. is_before (key x) (key y) (at_member (λ y. before? (key x) (key y)) y xs a m)), is_ascending xs b)
+module _ {A : Type 0} (R : A → A → Ordering) where
+  -- Each entry is below all that follow it.
+  abbrev pub climbs? : List A → Bool
+  climbs? [] = true
+  climbs? (x ∷ xs) = all_of (λ y. is_lt (R x y)) xs && climbs? xs
 
--- A list without repeats whose entries are all in another is not longer.
-module _ {A : Type 0} where
-  abbrev without : (x : A) (ys : List A) → Member x ys → List A
-  without x [] m = []
-  without x (y ∷ ys) (inl e) = ys
-  without x (y ∷ ys) (inr m) = y ∷ without x ys m
-
-  length_without : (x : A) (ys : List A) (m : Member x ys) → length ys ≡ suc (length (without x ys m))
-  length_without x [] m = absurd m
-  length_without x (y ∷ ys) (inl e) = refl
-  length_without x (y ∷ ys) (inr m) = omega (arith, length_without x ys m)
-
-  still_member : (x z : A) (ys : List A) (m : Member x ys) → (z ≡ x → ⊥) → Member z ys → Member z (without x ys m)
-  still_member x z [] m n k = k
-  still_member x z (y ∷ ys) (inl e) n (inl f) = absurd (n (f ∙ sym e))
-  still_member x z (y ∷ ys) (inl e) n (inr k) = k
-  still_member x z (y ∷ ys) (inr m) n (inl f) = inl f
-  still_member x z (y ∷ ys) (inr m) n (inr k) = inr (still_member x z ys m n k)
-
-  pub not_longer : (xs ys : List A) → Once xs → ((x : A) → Member x xs → Member x ys) → length xs ≤ length ys
-  not_longer [] ys o f = omega arith
-  not_longer (x ∷ xs) ys o f =
-      let m = f x (inl refl) in
-      let rest = not_longer xs (without x ys m) o.1
-      (λ z k. still_member x z ys m (λ e. o.0 (subst (λ u. Member u xs) e k)) (f z (inr k))) in
-      omega (arith, length_without x ys m)
+  pub is_climbing : (xs : List A) → climbs? xs ≡ true → Climbs R xs
+  is_climbing [] e i j d ij jl = absurd (omega arith)
+  is_climbing (x ∷ xs) e zero zero d ij jl = absurd (omega arith)
+  is_climbing (x ∷ xs) e zero (suc j) d ij jl =
+      less (R x (get_or xs j d))
+      (at_member (λ y. is_lt (R x y)) (get_or xs j d) xs (and_parts _ _ e).0 (mem_at xs j d (omega arith)))
+  is_climbing (x ∷ xs) e (suc i) zero d ij jl = absurd (omega arith)
+  is_climbing (x ∷ xs) e (suc i) (suc j) d ij jl = is_climbing xs (and_parts _ _ e).1 i j d (omega arith) (omega arith)

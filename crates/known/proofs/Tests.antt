@@ -1,7 +1,7 @@
 -- Tests over the numbers below a number and over the entries of a list, and what they tell.
-use Rattle.std.proofs.Common.{◌≡◌, ℕ, zero, suc, ◌<◌, Bool, true, false, ◌&&◌, ◌||◌, List, [], ◌∷◌, refl, inl, inr, arith}
+use Rattle.std.proofs.Common.{◌≡◌, ℕ, zero, suc, ◌<◌, Bool, true, false, ◌&&◌, ◌||◌, List, [], ◌∷◌, inl, inr, arith}
 use Rattle.std.proofs.lemmas.Bool.{and_parts, or_cases, cases_eq, false≢true}
-use Rattle.known.specs.Lists.{Member}
+use Rattle.link_growth.specs.Entries.{Mem, head, tail}
 
 abbrev pub implies : Bool → Bool → Bool
 implies true b = b
@@ -44,15 +44,15 @@ module _ {A : Type 0} (p : A → Bool) where
   some_of [] = false
   some_of (x ∷ xs) = p x || some_of xs
 
-  pub at_member : (x : A) (xs : List A) → all_of xs ≡ true → Member x xs → p x ≡ true
-  at_member x [] e m = absurd m
-  at_member x (y ∷ ys) e (inl q) = rw q (and_parts _ _ e).0
-  at_member x (y ∷ ys) e (inr m) = at_member x ys (and_parts _ _ e).1 m
+  pub at_member : (x : A) (xs : List A) → all_of xs ≡ true → Mem x xs → p x ≡ true
+  at_member x [] e m = elim m [ ]
+  at_member x (y ∷ ys) e head = (and_parts _ _ e).0
+  at_member x (y ∷ ys) e (tail m) = at_member x ys (and_parts _ _ e).1 m
 
-  pub found_member : (xs : List A) → some_of xs ≡ true → (x : A) × Member x xs × (p x ≡ true)
+  pub found_member : (xs : List A) → some_of xs ≡ true → (x : A) × Mem x xs × (p x ≡ true)
   found_member [] e = absurd (false≢true e)
   found_member (x ∷ xs) e =
       elim (or_cases _ _ e) [
-        | inl a ↦ (x, inl refl, a)
-        | inr b ↦ let (y, m, q) = found_member xs b in (y, inr m, q)
+        | inl a ↦ (x, head, a)
+        | inr b ↦ let (y, m, q) = found_member xs b in (y, tail m, q)
       ]

@@ -6,19 +6,21 @@
 --   row a s            the items of the row of the state s
 --   step_byte ts s X   the state that s steps to by X, or 255 where no step of ts tells one
 --   table a            the automaton as a table of states; source a, as a source of states
---   Proper a           the grammar is well-formed, and the source is lawful and answers nothing outside the ranges
 --   RowsAre a          the rows are the LR(0) item sets, each once and no others, so that there are as many as states, and the row of the
 --                      state 0 is the first
 --   IsStep a t         t is the step of one row to another
---   StepsAre a         the steps are all steps between the rows and no others, and the source answers them and no others
+--   StepsAre a         the steps are all steps between the rows and no others, each once, and the source answers them and no others
+--   known_states a     the states 0, 1 and so on, each known with its row
+--   InOrder a          the walk over the table passes, and meets the states in the order of their numbers
 use Rattle.std.specs.Prelude.{◌≡◌, ℕ, ◌-◌, ◌<◌, cond, ◌&&◌, ◌↔◌, List, [], ◌∷◌, ◌++◌, length, replicate, Some, ◌==◌, slice_index_or}
-use Rattle.parsing.specs.Grammar.{Grammar, WellFormed}
-use Rattle.parsing.specs.Items.{Source, Lawful}
+use Rattle.parsing.specs.Grammar.{Grammar}
+use Rattle.parsing.specs.Items.{Source}
 use Rattle.parsing.specs.Rows.{has, IsRow}
 use Rattle.grammar_format.specs.Fields.{listed}
 use Rattle.table_format.specs.ItemSets.{Items, FirstRow, StepTo}
-use Rattle.table_format.specs.Tables.{Table, wanted_mark, EachOnce, SetCount, source_of, Bounded}
-use Rattle.known.specs.Lists.{Member, Exactly}
+use Rattle.table_format.specs.Tables.{Table, wanted_mark, EachOnce, SetCount, source_of}
+use Rattle.table_format.specs.Walks.{Known, Walked, Walk, passes}
+use Rattle.link_growth.specs.Entries.{Mem, Once}
 
 pub record Transition : Type 0 where
   pub state : ℕ
@@ -54,11 +56,6 @@ table a = record {
 abbrev pub source : Automaton → Source
 source a = source_of a.grammar (table a) (row a)
 
-pub record Proper (a : Automaton) : Type 0 where
-  pub well_formed : WellFormed a.grammar
-  pub lawful : Lawful (source a)
-  pub bounded : Bounded (source a)
-
 pub record RowsAre (a : Automaton) : Type 0 where
   pub bytes : (s : ℕ) → s < states a → IsRow (row_bytes (slice_index_or a.rows s []))
   pub each_once : EachOnce a.grammar (listed (row a) (states a))
@@ -71,5 +68,13 @@ pub record IsStep (a : Automaton) (t : Transition) : Type 0 where
   pub step : StepTo a.grammar (row a t.state) t.symbol (row a t.to)
 
 pub record StepsAre (a : Automaton) : Type 0 where
-  pub steps : Exactly (IsStep a) a.steps
-  pub answers : (t : Transition) → ((source a).next t.state t.symbol ≡ Some t.to) ↔ Member t a.steps
+  pub once : Once a.steps
+  pub steps : (t : Transition) → IsStep a t ↔ Mem t a.steps
+  pub answers : (t : Transition) → ((source a).next t.state t.symbol ≡ Some t.to) ↔ Mem t a.steps
+
+abbrev pub known_states : Automaton → List Known
+known_states a = listed (λ s. record { state = s; row = row a s }) (states a)
+
+pub record InOrder (a : Automaton) : Type 0 where
+  pub walked : Walked a.grammar (table a) (known_states a) (states a) 0 0
+  pub passed : Walk a.grammar (table a) passes

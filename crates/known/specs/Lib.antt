@@ -1,5 +1,3 @@
-pub mod Lists
-pub mod Orders
 pub mod Automata
 pub mod Readings
 pub mod Samples

@@ -1,18 +1,21 @@
 -- Two small grammars with their LR(0) automata, and what some words give.
---   rule X Xs, step s X u, link s j b i, node X i j, by_rule r cs   short for the records of rules, steps, links, nodes, alternatives
+--   rule X Xs, step s X u, link s j b i, node X i j, by_rule r cs   short for the records of rules, steps, links, nodes, alternatives;
+--             the cuts that an alternative does not use are 255
 --   p         the automaton of P: the terminals are 0, 1 and 2; 3 is the goal, and 4 is 0 and 1, or two of 4 with 2 between them
 --   q         the automaton of Q: the terminals are 0 and 1; 2 is the goal, and 3 is two of 3, or 1, or nothing
 --   p_two     P over one 4
 --   p_five    P over two of 4
 --   p_eight   P over three of 4, which can be read in two ways
---   p_back    P over the first two of those eight words
 --   q_none    Q over no words
 --   q_one     Q over one word
-use Rattle.std.specs.Prelude.{ℕ, List, [], ◌∷◌, take}
+use Rattle.std.specs.Prelude.{ℕ, List, [], ◌∷◌}
 use Rattle.parsing.specs.Grammar.{Rule}
-use Rattle.known.specs.Orders.{Node, Alternative}
+use Rattle.link_growth.specs.Entries.{lnk as link}
+use Rattle.records.specs.declared.node.Node.{Node}
+use Rattle.records.specs.declared.alternative.Alternative.{Alternative}
+use Rattle.histories.specs.Forests.{padded}
 use Rattle.known.specs.Automata.{Transition, Automaton}
-use Rattle.known.specs.Readings.{Link, Reading}
+use Rattle.known.specs.Readings.{Reading}
 
 abbrev rule : ℕ → List ℕ → Rule
 rule X Xs = record { left = X; right = Xs }
@@ -21,14 +24,11 @@ rule X Xs = record { left = X; right = Xs }
 abbrev step : ℕ → ℕ → ℕ → Transition
 step s X u = record { state = s; symbol = X; to = u }
 
-abbrev link : ℕ → ℕ → ℕ → ℕ → Link
-link s j b i = record { state = s; place = j; below = b; below_place = i }
-
 abbrev node : ℕ → ℕ → ℕ → Node
 node X i j = record { symbol = X; from = i; to = j }
 
 abbrev pub by_rule : ℕ → List ℕ → Alternative
-by_rule r cs = record { rule = r; cuts = cs }
+by_rule r cs = record { rule = r; cuts = padded cs }
 
 abbrev pub p : Automaton
 p = record {
@@ -105,15 +105,6 @@ p_eight = record {
       ∷ by_rule 2 (3 ∷ 5 ∷ 6 ∷ 8 ∷ [])
       ∷ by_rule 1 (6 ∷ 7 ∷ 8 ∷ [])
       ∷ [];
-}
-
-abbrev pub p_back : Reading
-p_back = record {
-  automaton = p;
-  words = take 2 p_eight.words;
-  links = p_two.links;
-  nodes = p_two.nodes;
-  alternatives = p_two.alternatives;
 }
 
 abbrev pub q_none : Reading

@@ -4,8 +4,6 @@
 ghost use Rattle.known.specs.Results.{KnownResults};
 
 /// The definitions of item set, step, link, sentence, occurrence and order give each row of the table of known results.
-pub fn known_results_hold() -> u8
+pub fn known_results_hold()
     ensures { KnownResults }
-{
-    0
-}
+{}

@@ -1,0 +1,3 @@
+pub mod Refuting
+pub mod Sentences
+pub mod OverP
