@@ -9,18 +9,18 @@ use Rattle.parsing.specs.Links.{Linked}
 use Rattle.link_growth.specs.declared.Link.{Link}
 use Rattle.link_growth.specs.Entries.{Mem, head, tail}
 use Rattle.link_growth.specs.Counting.{Exact}
-use Rattle.register.specs.Registers.{Has}
+use Rattle.register.specs.Lists.{Has}
 use Rattle.register.proofs.Growing.{has_none}
 use Rattle.records.specs.declared.node.Node.{Node}
 use Rattle.records.specs.declared.alternative.Alternative.{Alternative}
 use Rattle.records.specs.Blanks.{blank_node, blank_alternative}
 use Rattle.records.specs.Orders.{by_node, by_alternative}
+use Rattle.grammar.specs.declared.refusal.Refusal.{Refusal}
 use Rattle.states.specs.Sources.{Sourced}
 use Rattle.forest.specs.Forests
-use Rattle.forest.specs.Forests.{Gathers, IsNode, IsAlternative, Short}
+use Rattle.forest.specs.Forests.{GathersForest, IsNode, IsAlternative, Short}
 use Rattle.forest.specs.declared.gathering.Counts.{Counts}
 use Rattle.forest.specs.declared.fault.GatherFault.{GatherFault}
-use Rattle.forest.specs.declared.fault.GatherFault.TheVariants.{NoSentence, NodesShort, AlternativesShort}
 use Rattle.forest.specs.Refusals.{refusal}
 use Rattle.histories.specs.Calls.{opened, gather, Reply, refused, counted, and_lists}
 use Rattle.histories.specs.Doings.{Accepts, Does, gather_closed, gather_none, gather_nodes, gather_alternatives, gather_done}
@@ -85,8 +85,8 @@ module _ {X : Type 0} {P Q : X → Type 0} (f : (z : X) → P z → Q z) (h : (z
 
 -- The front of the slots lists the records, and the blanks fill the rest.
 module _ {X : Type 0} {R : X → X → Ordering} (o : IsTotalOrder R) {P Q : X → Type 0} (f : (z : X) → P z → Q z) (h : (z : X) → Q z → P z)
-    (blank : X) (xs vs : List X) (n : ℕ) (l : Forests.Lists o P blank vs n) where
-  lists_front : Lists o Q (take n vs)
+    (blank : X) (xs vs : List X) (n : ℕ) (l : Forests.Lists R P blank vs n) where
+  lists_front : Lists R Q (take n vs)
   lists_front = record { order = l.order; each = λ z q. l.whole z (h z q); only = λ z k. f z (l.sound z k) }
 
   front_long : length (take n vs) ≡ n
@@ -115,15 +115,22 @@ module _ {S : Type 0} (m : S → Source) (r : Reading S) (n : ℕ) (is_open : r.
       → Does (m r.source) (opened n r.words) (gather ns bs) (and_lists a xs ys) (opened n r.words) → Makes m r (gather ns bs) (and_lists a vs us) r
   lists_are a xs ys e f d = makes a (rw (sym e, sym f) d)
 
-  pub gather_refused : (f : GatherFault) → Gathers (m r.source).grammar r.words ns bs vs us (Err f)
+  -- The fault is shown as that refusal.
+  refused_as : (f : GatherFault) {e : Refusal} → refusal f ≡ e → Makes m r (gather ns bs) (and_lists (refused e) vs us) r
       → Makes m r (gather ns bs) (and_lists (refused (refusal f)) vs us) r
-  gather_refused NoSentence (none, e, f) = lists_are _ ns bs (sym e) (sym f) (gather_none (λ a. none ((accepts_sentence law).0 a)))
-  gather_refused NodesShort (s, short, e, f) = lists_are _ _ _ (sym e) (sym f) (gather_nodes (accepted s) (short_more node_of of_node ns short))
-  gather_refused AlternativesShort (s, room, short, e, f) =
-      lists_are _ _ _ (sym e) (sym f)
-      (gather_alternatives (accepted s) (not_short node_of of_node ns room) (short_more alternative_of of_alternative bs short))
+  refused_as f q h = subst (λ t. Makes m r (gather ns bs) (and_lists (refused t) vs us) r) (sym q) h
 
-  pub gather_made : (c : Counts) → Gathers (m r.source).grammar r.words ns bs vs us (Ok c)
+  pub gather_refused : (f : GatherFault) → GathersForest (m r.source).grammar r.words ns bs vs us (Err f)
+      → Makes m r (gather ns bs) (and_lists (refused (refusal f)) vs us) r
+  gather_refused f (inl x) = refused_as f x.number (lists_are _ ns bs (sym x.nodes) (sym x.alternatives) (gather_none (λ a. x.none ((accepts_sentence law).0 a))))
+  gather_refused f (inr x) = elim x.short [
+    | inl (e, short) ↦ refused_as f e (lists_are _ _ _ (sym x.nodes) (sym x.alternatives) (gather_nodes (accepted x.some) (short_more node_of of_node ns short)))
+    | inr (e, room, short) ↦ refused_as f e
+        (lists_are _ _ _ (sym x.nodes) (sym x.alternatives)
+        (gather_alternatives (accepted x.some) (not_short node_of of_node ns room) (short_more alternative_of of_alternative bs short)))
+  ]
+
+  pub gather_made : (c : Counts) → GathersForest (m r.source).grammar r.words ns bs vs us (Ok c)
       → Makes m r (gather ns bs) (and_lists (counted c.nodes c.alternatives) vs us) r
   gather_made c (s, g) =
       let xs = take c.nodes vs in

@@ -5,7 +5,7 @@ use Rattle.parsing.specs.Items.{Source}
 use Rattle.parsing.specs.Links.{Linked}
 use Rattle.grammar.specs.Questions.{right_symbol}
 use Rattle.links.specs.Holding.{Tells}
-use Rattle.parts.proofs.Grammars.{start_is}
+use Rattle.forest.proofs.Grammars.{start_is}
 use Rattle.histories.specs.Calls.{judge, refused, judged, plain}
 use Rattle.histories.specs.Doings.{Accepts, Does, judge_closed, judge_open}
 use Rattle.histories.specs.Refusals.{of_reading}

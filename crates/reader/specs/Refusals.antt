@@ -1,11 +1,8 @@
 -- The refusals of a reading.
---   number_of f         the number of the refusal of a word for the fault f
 --   refusal f           the number, the layer and the places of the fault f
 --   through_refusal f   the same of the fault of a read-through; where it is at a word, the bytes of the word are told beside it
-use Rattle.std.specs.Prelude.{ℕ}
 use Rattle.grammar.specs.declared.refusal.Refusal.{Refusal}
-use Rattle.links.specs.declared.fault.TakeFault.{TakeFault}
-use Rattle.links.specs.declared.fault.TakeFault.TheVariants.{TooManyWords, NoTerminal, NoStep, TooManyLinks}
+use Rattle.links.specs.Refusals.{number_of}
 use Rattle.words.specs.Refusals.{refusal as of_feed}
 use Rattle.forest.specs.Refusals.{refusal as of_gather}
 use Rattle.histories.specs.Refusals.{of_reading}
@@ -13,12 +10,6 @@ use Rattle.reader.specs.declared.fault.ReadingFault.{ReadingFault}
 use Rattle.reader.specs.declared.fault.ReadingFault.TheVariants.{Closed, LimitRange, LimitTooLow, Take, BackBeyond, Gather}
 use Rattle.reader.specs.declared.fault.ThroughFault.{ThroughFault}
 use Rattle.reader.specs.declared.fault.ThroughFault.TheVariants.{Feed, Reading, Word}
-
-abbrev pub number_of : TakeFault → ℕ
-number_of TooManyWords = 43
-number_of NoTerminal = 44
-number_of NoStep = 45
-number_of TooManyLinks = 46
 
 abbrev pub refusal : ReadingFault → Refusal
 refusal Closed = of_reading 40 0 0

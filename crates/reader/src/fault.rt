@@ -2,7 +2,7 @@
 ghost use Rattle.std.specs.Prelude.{◌≡◌};
 ghost use Rattle.reader.specs.declared.fault.ReadingFault.TheVariants.{Gather};
 ghost use Rattle.reader.specs.declared.fault.ThroughFault.TheVariants.{Feed, Reading, Word};
-ghost use Rattle.reader.specs.Refusals.{refusal as told, number_of, through_refusal as shown};
+ghost use Rattle.reader.specs.Refusals.{refusal as told, through_refusal as shown};
 
 use forest::GatherFault;
 use grammar::{Layer, Refusal};
@@ -53,7 +53,7 @@ impl From<ReadingFault> for Refusal {
                 fault,
                 kept,
                 terminal,
-            } => (take_number(fault), kept, terminal),
+            } => (fault.number(), kept, terminal),
             ReadingFault::BackBeyond { words, kept } => (47, words, kept),
             ReadingFault::Gather(fault) => return fault.refusal(),
         };
@@ -63,18 +63,6 @@ impl From<ReadingFault> for Refusal {
             first,
             second,
         }
-    }
-}
-
-/// The number of the refusal of a word.
-fn take_number(fault: TakeFault) -> u8
-    ensures { result ≡ number_of fault }
-{
-    match fault {
-        TakeFault::TooManyWords => 43,
-        TakeFault::NoTerminal => 44,
-        TakeFault::NoStep => 45,
-        TakeFault::TooManyLinks => 46,
     }
 }
 

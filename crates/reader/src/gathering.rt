@@ -20,7 +20,7 @@ impl<S: StateSource> Reading<S> {
         ensures { Makes S.meaning self.now (gathering nodes.old alternatives.old) (and_lists (counts result) nodes.new alternatives.new) self.now }
     {
         let _limit = self.limit()?;
-        let words = self.words.as_slice();
-        Ok(gather(&self.source, words, self.links.all(), nodes, alternatives)?)
+        let links = self.links.all();
+        Ok(gather(&self.source, &self.words, links, nodes, alternatives)?)
     }
 }

@@ -10,6 +10,8 @@ mod forests;
 #[cfg(test)]
 mod linked;
 #[cfg(test)]
+mod pairs;
+#[cfg(test)]
 mod refusals;
 #[cfg(test)]
 mod replays;

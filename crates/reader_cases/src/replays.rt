@@ -3,6 +3,7 @@ use crate::answers::Answer;
 use crate::calls::{Answered, Call, Script};
 use crate::refusals::{OVER_P, OVER_Q};
 use crate::sheets::{grammar_of, reading_of, states_of};
+use either::{Left, Right};
 use grammar::Grammar;
 use records::{Alternative, Node};
 use replay::{Step, Told, perform, replay};
@@ -10,7 +11,7 @@ use sample_sheets::{P, Q};
 use std::alloc::{AllocError, Global};
 use std::process::Abort;
 use std::test::Fail;
-use words::{TextFeed, Word, WordFeed};
+use words::{KeyFeed, TextFeed, Word, WordFeed};
 
 /// What no call answers first: the log has it where nothing is written.
 const NOT_WRITTEN: Told = Told::Judged(Ok(true));
@@ -130,4 +131,31 @@ fn check_feed<F: WordFeed + Drop>(rt: &impl Abort, feed: F) -> Result<(), Fail> 
 fn the_feed_of_a_step_goes_on(rt: HostRuntime) -> Result<(), Fail> {
     let grammar = grammar_of(&P)?;
     check_feed(&rt, TextFeed::new(&grammar, b"tea tea and"))
+}
+
+/// Texts and key records mix. The last key is refused.
+#[test]
+fn texts_and_keys_mix(rt: HostRuntime) -> Result<(), Fail> {
+    let grammar = grammar_of(&P)?;
+    let text = TextFeed::new(&grammar, b"1 tea");
+    let keys = KeyFeed::new(&grammar, b"\x02\0\0\x01\x01\x01");
+    let mut steps = [
+        Step::Open(4096),
+        Step::ReadThrough(Left(text)),
+        Step::ReadThrough(Right(keys)),
+        Step::Judge,
+    ];
+    let mut log = [NOT_WRITTEN; 4];
+    let reading = replay(states_of(&grammar)?, &mut steps, &mut log);
+    let answers = [
+        Answer::Done,
+        Answer::Judged(true),
+        Answer::AtWord(45, 5, 1, 5, 6),
+        Answer::Judged(true),
+    ];
+    for (told, answer) in log.iter().zip(answers) {
+        assert_eq!(rt; Answer::from(*told), answer);
+    }
+    assert_eq!(rt; reading.words(), 5);
+    Ok(())
 }

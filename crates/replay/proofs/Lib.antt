@@ -1,2 +1,5 @@
+pub mod Following
+pub mod Going
 pub mod Growing
 pub mod Leading
+pub mod Pairing

@@ -1,2 +1,4 @@
 pub mod Chains
+pub mod Pairs
+pub mod Statements
 pub mod Steps

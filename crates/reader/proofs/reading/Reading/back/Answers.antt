@@ -1,4 +1,5 @@
 use Rattle.std.proofs.Common.{rules, ◌≡◌, Err, ap, ◌∙◌, arith}
+use Rattle.links.proofs.Words.{back_words}
 use Rattle.reader.specs.declared.fault.ReadingFault.TheVariants.{Closed}
 use Rattle.reader.proofs.Calling.{limit_of, holds_of, sound_opened, back_out, back_over, back_in}
 use Rattle.reader.proofs.reading.Reading.back.Goals as goal
@@ -20,7 +21,7 @@ invariant_of-self g c =
     let ws = c.self.inside.words.items in
     let limit = ap (λ v. v.limit) c.self.view_is ∙ c.in_ok-_limit.ensures in
     sound_opened src c.truncate.new.self.items c.back.new.self limit (limit_of src ws c.self.inside.links limit c.self.invariant)
-    (rw c.truncate.ensures.items (c.back.ensures src ws (holds_of src ws c.self.inside.links limit c.self.invariant)))
+    (rw c.truncate.ensures.items (back_words (holds_of src ws c.self.inside.links limit c.self.invariant) c.back.ensures))
 
 pub returns : goal.returns
 returns g c =

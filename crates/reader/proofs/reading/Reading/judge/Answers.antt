@@ -1,4 +1,5 @@
 use Rattle.std.proofs.Common.{rules, ◌≡◌, false, Err, sym, ap, ◌∙◌, true≢false}
+use Rattle.links.proofs.Words.{has_words}
 use Rattle.reader.specs.declared.fault.ReadingFault.TheVariants.{Closed}
 use Rattle.reader.proofs.Calling.{holds_of}
 use Rattle.reader.proofs.Verdicts.{not_accepted, told_accepted, judge_out, judge_in}
@@ -28,5 +29,5 @@ returns g c =
     let limit = ap (λ v. v.limit) c.self.view_is ∙ c.in_ok-_limit.ensures in
     let told = told_accepted src (g.met.S.StateSource.lawful c.self.inside.source).well_formed ws c.first-first.result c.right.result c.first-first.ensures c.right.ensures
     c.in-Some.state c.len.result c.has.result (sym c.next.ensures ∙ c.in-Some.is) c.len.ensures.value
-    (c.has.ensures.linked src ws (holds_of src ws c.self.inside.links limit c.self.invariant)) in
+    (has_words (holds_of src ws c.self.inside.links limit c.self.invariant) _ c.has.ensures) in
     rw (← c.self.view_is) (judge_in m (record { source = c.self.inside.source; limit = c.self.inside.limit; words = ws }) c.in_ok-_limit._limit c.has.result limit told)
