@@ -7,7 +7,6 @@ use Rattle.grammar.specs.declared.refusal.Refusal.{Refusal}
 use Rattle.link_growth.specs.Counting.{Counts, Exceeds}
 use Rattle.states.specs.Sources.{Sourced}
 use Rattle.words.specs.Feeds.{Coming}
-use Rattle.words.specs.Refusals.{refusal as of_feed}
 use Rattle.words.specs.declared.word.Word.{Word}
 use Rattle.histories.specs.Calls.{Held, Call, opened, open_with, read_through, Reply, Answer, done, judged, plain, and_feed}
 use Rattle.histories.specs.Calls
@@ -81,10 +80,9 @@ module _ {src : Source} (law : Sourced src) (c : Coming) (fits : Fits src [] 409
   pub feed_outcome : (r : Refusal) (vs : List ℕ) (ds : List Word) → Passes src 4096 c.fault [] c.words (Calls.refused r) vs ds → Answered src c (refused r)
   feed_outcome r vs ds x =
       let k = faulted x in
-      let y = subst (λ v. Passes src 4096 c.fault [] c.words (Calls.refused v) vs ds) k.told x in
-      let z = subst (λ v. Passes src 4096 c.fault [] c.words (Calls.refused (of_feed k.fault)) v ds) k.kept y in
-      let passes = subst (λ v. Passes src 4096 c.fault [] c.words (Calls.refused (of_feed k.fault)) (terminals_of c.words) v) k.none_left z in
-      subst (λ v. Answered src c (refused v)) (sym k.told) (stopped k.fault fits k.comes passes)
+      let y = subst (λ v. Passes src 4096 c.fault [] c.words (Calls.refused r) v ds) k.kept x in
+      let passes = subst (λ v. Passes src 4096 c.fault [] c.words (Calls.refused r) (terminals_of c.words) v) k.none_left y in
+      stopped r fits k.comes passes
 
   pub fault_outcome : (f : ThroughFault) (vs : List ℕ) (ds : List Word) → Passes src 4096 c.fault [] c.words (through (Err f)) vs ds → Answered src c (outcome_of (AtReading f))
   fault_outcome (Feed f) vs ds x = feed_outcome _ vs ds x

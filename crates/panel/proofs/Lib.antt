@@ -4,3 +4,4 @@ pub mod Answering
 pub mod Gathering
 pub mod Tables
 pub mod Deciding
+pub mod Agreeing

@@ -2,25 +2,21 @@
 use Rattle.std.proofs.Common.{◌≡◌, ℕ, Bool, true, ◌↔◌, List, [], ◌∷◌, ◌++◌, Some, None, Option, sym, refl, ap, ◌∙◌, append_assoc, append-nil}
 use Rattle.grammar.specs.declared.refusal.Refusal.{Refusal}
 use Rattle.parsing.specs.Items.{Source}
-use Rattle.words.specs.Refusals.{refusal}
 use Rattle.words.specs.declared.word.Word.{Word}
-use Rattle.words.specs.declared.fault.FeedFault.{FeedFault}
 use Rattle.histories.specs.Calls.{judged, refused, word_refused}
 use Rattle.histories.specs.Doings.{Accepts, Passes, at_end, at_fault, word_no, word_yes}
 use Rattle.histories.specs.Laws.{terminals_of}
 use Rattle.histories.specs.Meetings.{Meets}
 
 -- The words are all kept, and the feed is at its end.
-pub record Ended (src : Source) (e : Option FeedFault) (ws : List ℕ) (cs : List Word) (b : Bool) (vs : List ℕ) (ds : List Word) : Type 0 where
+pub record Ended (src : Source) (e : Option Refusal) (ws : List ℕ) (cs : List Word) (b : Bool) (vs : List ℕ) (ds : List Word) : Type 0 where
   pub no_fault : e ≡ None
   pub kept : vs ≡ ws ++ terminals_of cs
   pub none_left : ds ≡ []
   pub verdict : (b ≡ true) ↔ Accepts src vs
 
-pub record Faulted (e : Option FeedFault) (ws : List ℕ) (cs : List Word) (r : Refusal) (vs : List ℕ) (ds : List Word) : Type 0 where
-  pub fault : FeedFault
-  pub comes : e ≡ Some fault
-  pub told : r ≡ refusal fault
+pub record Faulted (e : Option Refusal) (ws : List ℕ) (cs : List Word) (r : Refusal) (vs : List ℕ) (ds : List Word) : Type 0 where
+  pub comes : e ≡ Some r
   pub kept : vs ≡ ws ++ terminals_of cs
   pub none_left : ds ≡ []
 
@@ -33,7 +29,7 @@ pub record Refused (src : Source) (n : ℕ) (ws : List ℕ) (cs : List Word) (r 
   pub to_is : q ≡ word.to
   pub met : Meets src n vs word.terminal (Some r)
 
-module _ {src : Source} {n : ℕ} {e : Option FeedFault} where
+module _ {src : Source} {n : ℕ} {e : Option Refusal} where
   pub ended : {ws vs : List ℕ} {cs ds : List Word} {b : Bool} → Passes src n e ws cs (judged b) vs ds → Ended src e ws cs b vs ds
   ended (at_end {ws = ws} x y) = record { no_fault = x; kept = sym (append-nil ws); none_left = refl; verdict = y }
   ended (word_yes {ws = ws} {w = w} {cs = cs} m p) =
@@ -41,10 +37,10 @@ module _ {src : Source} {n : ℕ} {e : Option FeedFault} where
       record { no_fault = k.no_fault; kept = k.kept ∙ append_assoc ws (w.terminal ∷ []) (terminals_of cs); none_left = k.none_left; verdict = k.verdict }
 
   pub faulted : {ws vs : List ℕ} {cs ds : List Word} {r : Refusal} → Passes src n e ws cs (refused r) vs ds → Faulted e ws cs r vs ds
-  faulted (at_fault {ws = ws} {f = f} x) = record { fault = f; comes = x; told = refl; kept = sym (append-nil ws); none_left = refl }
+  faulted (at_fault {ws = ws} x) = record { comes = x; kept = sym (append-nil ws); none_left = refl }
   faulted (word_yes {ws = ws} {w = w} {cs = cs} m p) =
       let k = faulted p in
-      record { fault = k.fault; comes = k.comes; told = k.told; kept = k.kept ∙ append_assoc ws (w.terminal ∷ []) (terminals_of cs); none_left = k.none_left }
+      record { comes = k.comes; kept = k.kept ∙ append_assoc ws (w.terminal ∷ []) (terminals_of cs); none_left = k.none_left }
 
   pub refused_at : {ws vs : List ℕ} {cs ds : List Word} {r : Refusal} {p q : ℕ} → Passes src n e ws cs (word_refused r p q) vs ds → Refused src n ws cs r p q vs ds
   refused_at (word_no {ws = ws} {w = w} m) =

@@ -6,14 +6,15 @@ use Rattle.table_format.specs.Tables.{source_of}
 use Rattle.table_format.specs.Sheets.{table_of}
 use Rattle.tables.specs.Meaning.{bytes, rows_of, source, Accepted}
 use Rattle.tables.specs.declared.table.Table.{Table}
-use Rattle.built_states.specs.Built.{row_items, built_table, Built}
-use Rattle.built_states.specs.Meaning.{source as built_source}
+use Rattle.built_states.specs.Built.{Built}
+use Rattle.built_states.specs.Once.{built_source}
+use Rattle.built_states.specs.Meaning.{source as source_built}
 use Rattle.built_states.specs.declared.built.BuiltStates.{BuiltStates}
 use Rattle.words.specs.Feeds.{Coming}
 use Rattle.panel.specs.Lines.{Outcome}
 use Rattle.panel.specs.Outcomes.{Answered, ByTable, built, supplied}
 
-built_is : (b : BuiltStates) → built_source b ≡ source_of (meaning b.grammar) (built_table (meaning b.grammar) b.building.count b.building.rows b.building.steps) (row_items b.building.rows)
+built_is : (b : BuiltStates) → source_built b ≡ built_source (meaning b.grammar) b.building.count b.building.rows b.building.steps
 unfolding source_of
 built_is b = refl
 
@@ -25,10 +26,10 @@ supplied_is g b t a =
 
 module _ (g : Grammar) (b : List ℕ) (c : Coming) (o : Outcome) where
   pub over_built : (states : BuiltStates) → length b ≡ 0 → states.grammar ≡ g → Built (meaning g) states.building.count states.building.rows states.building.steps
-      → Answered (built_source states) c o → ByTable (meaning g) b c o
+      → Answered (source_built states) c o → ByTable (meaning g) b c o
   over_built s none same made a =
       built s.building.count s.building.rows s.building.steps o none made
-      (subst (λ h. Answered (source_of (meaning h) (built_table (meaning h) s.building.count s.building.rows s.building.steps) (row_items s.building.rows)) c o) same
+      (subst (λ h. Answered (built_source (meaning h) s.building.count s.building.rows s.building.steps) c o) same
       (subst (λ x. Answered x c o) (built_is s) a))
 
   pub over_supplied : (t : Table) → length b ≢ 0 → Accepted g b t → Answered (source t) c o → ByTable (meaning g) b c o

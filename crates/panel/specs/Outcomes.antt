@@ -1,6 +1,7 @@
 -- What comes of a recipe, for every grammar sheet, table sheet, and text or record of keys.
 --   Answered src c o     reading the words c over the source src comes to the outcome o
 --   OneOutcome           reading the words of a feed over a source comes to one outcome
+--   OneOfText            two sheets and a text come to one outcome, and so one text is shown of them; OneOfRecord, the same of a record
 --   Read src c b         the words c over the source src: a reading opens, takes them all, and judges b
 --   ByTable g b c o      so it does over the states of the table sheet b for the grammar g, or over those that are built where b has no bytes
 --   Short a b xs         none of the grammar sheet a, the table sheet b and the words xs is too long
@@ -16,9 +17,8 @@ use Rattle.grammar_format.specs.Keeping.{Keeps}
 use Rattle.grammar_format.specs.Sheets.{Sheet, sheet_bytes}
 use Rattle.grammar.specs.Refusals.{Refused as RefusedGrammar, refusal as of_grammar}
 use Rattle.grammar.specs.declared.fault.GrammarFault.{GrammarFault}
-use Rattle.states.specs.Refusals.{refusal as of_table}
+use Rattle.states.specs.Refusals.{of_table, refusal}
 use Rattle.states.specs.declared.fault.TableFault.{TableFault}
-use Rattle.states.specs.declared.fault.TableFault.TheVariants.{TooManyStates}
 use Rattle.rows.specs.declared.row.Row.{Row}
 use Rattle.table_format.specs.ItemSets.{Items}
 use Rattle.table_format.specs.Tables.{Matches, source_of}
@@ -26,11 +26,10 @@ use Rattle.table_format.specs.Walks.{passes}
 use Rattle.table_format.specs.Sheets.{table_of, Form}
 use Rattle.table_format.specs.Breaches.{Checked}
 use Rattle.tables.specs.Faults.{Refused as RefusedTable}
-use Rattle.built_states.specs.Built.{row_items, built_table, Built, Many}
+use Rattle.built_states.specs.Built.{Built, Many}
+use Rattle.built_states.specs.Once.{built_source}
 use Rattle.link_growth.specs.Counting.{Counts, Exceeds}
 use Rattle.words.specs.Feeds.{Coming}
-use Rattle.words.specs.Refusals.{refusal as of_feed}
-use Rattle.words.specs.declared.fault.FeedFault.{FeedFault}
 use Rattle.words.specs.Keys.{key_coming}
 use Rattle.words.specs.Texts.{text_coming}
 use Rattle.words.specs.declared.word.Word.{Word}
@@ -57,9 +56,9 @@ pub record Read (src : Source) (c : Coming) (b : Bool) : Type 0 where
 pub data Answered (src : Source) (c : Coming) : Outcome → Type 0 where
   -- The links of no words are too many.
   crowded : Exceeds src [] 4096 → Answered src c (refused (of_reading 42 0 0))
-  -- The words were all taken, and then the feed had a fault.
-  stopped : (f : FeedFault) → Fits src [] 4096 → c.fault ≡ Some f
-      → Passes src 4096 c.fault [] c.words (Calls.refused (of_feed f)) (terminals_of c.words) [] → Answered src c (refused (of_feed f))
+  -- The words were all taken, and then the feed was refused.
+  stopped : (r : Refusal) → Fits src [] 4096 → c.fault ≡ Some r
+      → Passes src 4096 c.fault [] c.words (Calls.refused r) (terminals_of c.words) [] → Answered src c (refused r)
   -- The words before were taken, and this one was not; as 45 exactly where no sentence begins with them and it.
   stopped_at : (before : List Word) (w : Word) (behind : List Word) (r : Refusal) → Fits src [] 4096 → c.words ≡ before ++ w ∷ behind
       → Passes src 4096 c.fault [] c.words (Calls.word_refused r w.from w.to) (terminals_of before) behind
@@ -83,14 +82,14 @@ pub data Answered (src : Source) (c : Coming) : Outcome → Type 0 where
 abbrev pub OneOutcome : Type 0
 OneOutcome = (src : Source) (c : Coming) (o p : Outcome) → Answered src c o → Answered src c p → o ≡ p
 
--- The states are those of the LR(0) item sets of the grammar.
+-- The states are those of the LR(0) item sets of the grammar, and make one source each time.
 pub data ByTable (g : Grammar) (b : List ℕ) (c : Coming) : Outcome → Type 0 where
   built : (n : ℕ) (ws : List Row) (ss : List (List (Option ℕ))) (o : Outcome) → length b ≡ 0 → Built g n ws ss
-      → Answered (source_of g (built_table g n ws ss) (row_items ws)) c o → ByTable g b c o
-  too_many : length b ≡ 0 → Many g → ByTable g b c (refused (of_table TooManyStates))
+      → Answered (built_source g n ws ss) c o → ByTable g b c o
+  too_many : length b ≡ 0 → Many g → ByTable g b c (refused (of_table 30 0 0))
   supplied : (rows : ℕ → Items) (o : Outcome) → length b ≢ 0 → Checked g b passes → Form g b → Matches g (table_of b) rows
       → Answered (source_of g (table_of b) rows) c o → ByTable g b c o
-  table_refused : (f : TableFault) → length b ≢ 0 → RefusedTable g b f → ByTable g b c (refused (of_table f))
+  table_refused : (f : TableFault) → length b ≢ 0 → RefusedTable g b f → ByTable g b c (refused (refusal f))
 
 pub record Short (a b xs : List ℕ) : Type 0 where
   pub grammar : length a ≤ 40000
@@ -117,3 +116,14 @@ pub record Shows (P : Outcome → Type 0) (text : List ℕ) : Type 0 where
   pub outcome : Outcome
   pub so : P outcome
   pub text_is : text ≡ lines outcome
+
+abbrev pub OneOf : (List ℕ → List ℕ → List ℕ → Outcome → Type 0) → Type 0
+OneOf P = (a b xs : List ℕ)
+    → ((o p : Outcome) → P a b xs o → P a b xs p → o ≡ p)
+    × ((text other : List ℕ) → Shows (P a b xs) text → Shows (P a b xs) other → text ≡ other)
+
+abbrev pub OneOfText : Type 0
+OneOfText = OneOf TextOutcome
+
+abbrev pub OneOfRecord : Type 0
+OneOfRecord = OneOf KeyOutcome

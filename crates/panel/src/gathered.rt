@@ -18,7 +18,7 @@ pub struct Forest {
 
 impl Forest {
     /// All alternatives.
-    pub(crate) fn alternatives(&self) -> &[Alternative]
+    pub fn alternatives(&self) -> &[Alternative]
         ensures { result.now ≡ take self.now.counts.alternatives self.now.list }
     {
         &self.list[0..self.counts.alternatives]

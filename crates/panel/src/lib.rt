@@ -10,5 +10,8 @@ mod reading;
 mod showing;
 mod sources;
 
-pub use once::readings_have_one_outcome;
-pub use showing::{read_keys, read_text};
+pub use answer::Answer;
+pub use fault::{Fault, Input};
+pub use gathered::Forest;
+pub use once::{readings_have_one_outcome, records_have_one_outcome, texts_have_one_outcome};
+pub use showing::{answer_keys, answer_text, read_keys, read_text};

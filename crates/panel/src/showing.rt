@@ -2,9 +2,8 @@
 ghost use Rattle.std.specs.Prelude.{◌≡◌, ◌<◌, ◌≤◌, length, MatchResult, IfOk, string_bytes};
 ghost use Rattle.grammar.specs.Meaning.{Reads};
 ghost use Rattle.panel.specs.Answers.{outcome};
-ghost use Rattle.panel.specs.Faults.{outcome_of};
-ghost use Rattle.panel.specs.declared.fault.Fault.TheVariants.{TooLong};
-ghost use Rattle.panel.specs.Lines.{lines};
+ghost use Rattle.panel.specs.Faults.{too_long, outcome_of};
+ghost use Rattle.panel.specs.Lines.{refused, lines};
 ghost use Rattle.panel.specs.Outcomes.{Short, Refuses, TextOutcome, KeyOutcome, Shows};
 
 use crate::answer::Answer;
@@ -19,7 +18,7 @@ const BYTES: usize = 40_000;
 
 /// Refuses an input that is too long.
 fn check_length(input: Input, bytes: &[u8]) -> Result<(), Fault>
-    ensures { MatchResult result (λ _. length bytes.now ≤ 40000) (λ f. (40000 < length bytes.now) × (f ≡ TooLong input)) }
+    ensures { MatchResult result (λ _. length bytes.now ≤ 40000) (λ f. (40000 < length bytes.now) × (outcome_of f ≡ refused (too_long input))) }
 {
     if bytes.len() > BYTES {
         return Err(Fault::TooLong(input));
@@ -37,8 +36,8 @@ fn grammar_of(grammar_sheet: &[u8], table_sheet: &[u8], words: &[u8]) -> Result<
     Ok(Grammar::read(grammar_sheet)?)
 }
 
-/// The answer for a text.
-fn answer_text(grammar_sheet: &[u8], table_sheet: &[u8], text: &[u8]) -> Result<Answer, Fault>
+/// The answer for the text of a recipe, read by a grammar sheet and a table sheet. Without bytes of a table sheet the states are built.
+pub fn answer_text(grammar_sheet: &[u8], table_sheet: &[u8], text: &[u8]) -> Result<Answer, Fault>
     ensures { TextOutcome grammar_sheet.now table_sheet.now text.now (outcome result) }
 {
     let grammar = grammar_of(grammar_sheet, table_sheet, text)?;
@@ -46,8 +45,8 @@ fn answer_text(grammar_sheet: &[u8], table_sheet: &[u8], text: &[u8]) -> Result<
     answer_by_table(&grammar, table_sheet, &mut feed)
 }
 
-/// The answer for a record of pressed keys.
-fn answer_keys(grammar_sheet: &[u8], table_sheet: &[u8], keys: &[u8]) -> Result<Answer, Fault>
+/// The same for a record of pressed keys.
+pub fn answer_keys(grammar_sheet: &[u8], table_sheet: &[u8], keys: &[u8]) -> Result<Answer, Fault>
     ensures { KeyOutcome grammar_sheet.now table_sheet.now keys.now (outcome result) }
 {
     let grammar = grammar_of(grammar_sheet, table_sheet, keys)?;
@@ -65,7 +64,7 @@ fn shown(heap: Global, answer: Result<Answer, Fault>) -> Result<String, AllocErr
     }
 }
 
-/// What `sheet` prints: the text of a recipe, read by a grammar sheet and a table sheet. Without bytes of a table sheet the states are built.
+/// What `sheet` prints: the lines of the answer for a text.
 pub fn read_text(
     heap: Global,
     grammar_sheet: &[u8],
@@ -77,7 +76,7 @@ pub fn read_text(
     shown(heap, answer_text(grammar_sheet, table_sheet, text))
 }
 
-/// What `key` prints: the same of a record of pressed keys.
+/// What `key` prints: the lines of the answer for a record of pressed keys.
 pub fn read_keys(
     heap: Global,
     grammar_sheet: &[u8],

@@ -10,7 +10,7 @@ pub returns-in_err-build : goal.returns-in_err-build
 returns-in_err-build g c =
     let why : c.from_residual.result ≡ Err (Table c.in_err-build.field-0.0) = search rules in
     let none : length c.args.table_sheet.now ≡ 0 = eqb-true _ _ (sym c.if-is_empty.ensures) in
-    let (e, many) = c.in_err-build.ensures.built in
+    let (e, many) = c.in_err-build.ensures in
     rw (why, e) (too_many none many)
 
 pub returns-in_err-check : goal.returns-in_err-check
@@ -23,7 +23,7 @@ pub returns-in_ok-build : goal.returns-in_ok-build
 returns-in_ok-build g c =
     let none : length c.args.table_sheet.now ≡ 0 = eqb-true _ _ (sym c.if-is_empty.ensures) in
     over_built c.args.grammar.now c.args.table_sheet.now (g.F.WordFeed.coming c.args.feed.now) (outcome c.answer.result) c.in_ok-build.field-0 none
-    c.in_ok-build.ensures.built.0 c.in_ok-build.ensures.built.1 c.answer.ensures
+    c.in_ok-build.ensures.over_grammar c.in_ok-build.ensures.built c.answer.ensures
 
 pub returns-in_ok-check : goal.returns-in_ok-check
 returns-in_ok-check g c =

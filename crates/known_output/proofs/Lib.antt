@@ -1,0 +1,5 @@
+pub mod Passing
+pub mod Sheets
+pub mod Building
+pub mod Theorem
+pub mod Output
