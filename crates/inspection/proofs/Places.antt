@@ -1,10 +1,8 @@
 -- Where the parts of a sheet stand, read off any bytes.
-use Rattle.std.proofs.Common.{◌≡◌, ℕ, zero, suc, ◌+◌, ◌-◌, ◌*◌, ◌^◌, ◌<◌, ◌≤◌, min, List, [], length, take, drop, sym, ap, ◌∙◌, add-zero, add-suc, add-one, arith}
+use Rattle.std.proofs.Common.{◌≡◌, ℕ, zero, suc, ◌+◌, ◌-◌, ◌*◌, ◌^◌, ◌<◌, min, List, [], length, take, drop, sym, ap, ◌∙◌, add-zero, add-suc, add-one, arith}
 use native.Mathlib.Decide.{dec_le}
 use Rattle.std.proofs.lemmas.List.{drop_all, take_all}
-use Rattle.grammar_format.specs.Fields.{rules, block, remains, behind_spelling}
-use Rattle.inspection.specs.Heads.{Tells}
-use Rattle.inspection.specs.declared.fields.Header.{Header}
+use Rattle.grammar_format.specs.Fields.{block, remains, behind_spelling}
 
 -- An offset that is too large for a number of 64 bits lies past the end.
 pub drop_cut : (xs : List ℕ) (n m : ℕ) → length xs < 2 ^ 64 → m ≡ min n (2 ^ 64 - 1) → drop m xs ≡ drop n xs
@@ -36,12 +34,3 @@ remains_none b (suc k) t e = ap (remains b) (add-suc t k) ∙ ap behind_spelling
 pub remains_more : (b : List ℕ) (t : ℕ) → behind_spelling (remains b t) ≡ remains b (t + 1)
 unfolding remains
 remains_more b t = ap (remains b) (sym (add-one t))
-
--- The spellings stand where the head tells, and nothing does where there is no head.
-pub rules_told : (b : List ℕ) (h : Header) (n : ℕ) → n ≡ h.rules → (12 ≤ length b → Tells b h) → drop (12 + 9 * n) b ≡ remains b 0
-unfolding remains
-rules_told b h n e t =
-    elim (dec_le 12 (length b)) [
-      | yes l ↦ ap (λ r. drop (12 + 9 * r) b) (e ∙ (t l).rules_are)
-      | no l ↦ drop_all (12 + 9 * n) b (omega arith) ∙ sym (drop_all (12 + 9 * rules b) b (omega arith))
-    ]

@@ -1,9 +1,7 @@
 //! Where the parts of a grammar sheet stand, read off any bytes, whether they keep the rules or not.
-ghost use Rattle.std.specs.Prelude.{◌≡◌, ◌≤◌, length, drop};
-ghost use Rattle.grammar_format.specs.Fields.{block as block_of, remains as remains_of, first_spelling, behind_spelling};
+ghost use Rattle.std.specs.Prelude.{◌≡◌, drop, slice_index};
+ghost use Rattle.grammar_format.specs.Fields.{number as number_of, block as block_of, remains as remains_of, first_spelling, behind_spelling};
 ghost use Rattle.inspection.specs.Heads.{Tells};
-
-use sheet_head::read_head;
 
 /// What a header tells.
 #[derive(Clone, Copy)]
@@ -16,28 +14,34 @@ pub(crate) struct Header {
     pub(crate) spellings_at: u16,
 }
 
+/// The byte at an offset; 0 past the end.
+fn byte(sheet: &[u8], at: usize) -> u8
+    ensures { result ≡ slice_index sheet.now at }
+{
+    sheet.get(at).copied().unwrap_or(0)
+}
+
+/// The number of 16 bits at an offset.
+#[tactic(auto, unfolding(grammar_format::specs::Fields::number))]
+fn number(sheet: &[u8], at: u8) -> u16
+    ensures { result ≡ number_of sheet.now at }
+{
+    let at = usize::from(at);
+    u16::from(byte(sheet, at)) * 256 + u16::from(byte(sheet, at + 1))
+}
+
 impl Header {
-    /// The six numbers of a sheet; zeros where it is too short for them.
+    /// The six numbers of a sheet. What is past the end counts as 0.
     pub(crate) fn of(sheet: &[u8]) -> Header
-        ensures { 12 ≤ length sheet.now → Tells sheet.now result }
+        ensures { Tells sheet.now result }
     {
-        // Zeros and not none: reading gives no fault that shows the numbers of so short a sheet.
-        let numbers = read_head(sheet).unwrap_or([0; 6]);
-        let [
-            length,
-            terminals,
-            nonterminals,
-            rules,
-            rules_at,
-            spellings_at,
-        ] = numbers;
         Header {
-            length,
-            terminals,
-            nonterminals,
-            rules,
-            rules_at,
-            spellings_at,
+            length: number(sheet, 0),
+            terminals: number(sheet, 2),
+            nonterminals: number(sheet, 4),
+            rules: number(sheet, 6),
+            rules_at: number(sheet, 8),
+            spellings_at: number(sheet, 10),
         }
     }
 }

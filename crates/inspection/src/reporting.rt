@@ -11,10 +11,9 @@ use grammar::{Grammar, GrammarFault, Refusal};
 use std::alloc::{AllocError, Global};
 use std::fmt;
 
-/// Whether a grammar, written into a room as long as its sheet, gives the sheet.
+/// Whether a grammar, written into a room as long as the sheet, gives the sheet again.
 fn is_written_back(grammar: &Grammar, room: &mut [u8], sheet: &[u8]) -> bool
-    requires { length room.old ≡ length (sheet_bytes (sheet_of grammar.now)) }
-    ensures { Decides result (sheet_bytes (sheet_of grammar.now) ≡ sheet.now) }
+    ensures { length room.old ≡ length sheet.now → Decides result (sheet_bytes (sheet_of grammar.now) ≡ sheet.now) }
 {
     // Not `*room` or `room[..]`: the check finds the proof for a slice from 0 on only.
     grammar.write(room) == Ok(sheet.len()) && &room[0..] == sheet

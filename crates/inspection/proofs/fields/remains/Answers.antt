@@ -1,11 +1,12 @@
-use Rattle.std.proofs.Common.{◌≡◌, ◌+◌, ◌-◌, [], sym, ap, ◌∙◌, arith, eqb-true}
+use Rattle.std.proofs.Common.{◌≡◌, ◌+◌, ◌-◌, ◌*◌, [], drop, sym, ap, ◌∙◌, arith, eqb-true}
 use Rattle.std.proofs.lemmas.List.{nil_from_length}
 use Rattle.grammar_format.specs.Fields.{remains, behind_spelling}
-use Rattle.inspection.proofs.Places.{remains_none, remains_more, rules_told}
+use Rattle.inspection.proofs.Places.{remains_none, remains_more}
 use Rattle.inspection.proofs.fields.remains.Goals as goal
 
 pub loop-init : goal.loop-init
-loop-init c = c.behind-rest.ensures ∙ rules_told c.args.sheet.now c.of.result c.from.result c.from.ensures c.of.ensures
+unfolding remains
+loop-init c = c.behind-rest.ensures ∙ ap (λ n. drop (12 + 9 * n) c.args.sheet.now) (c.from.ensures ∙ c.of.ensures.rules_are)
 
 pub returns-then-is_empty : goal.returns-then-is_empty
 returns-then-is_empty c =
