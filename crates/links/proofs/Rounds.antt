@@ -126,22 +126,19 @@ pub firing_all : {src : Source} {x : ℕ} {t u : Table} {limit : ℕ} {start res
     → Ends src x 0 start (content t) (λ s b i. Has (content u) s t.place b i)
 firing_all e f c b i s m stays n = ⊎_elim (λ r. elim (subst (λ v. Mem (cell b i) v) e r) [ ]) (λ h. h) (f.fired b i s m n)
 
--- From the cells `start` some of `steps` links have been gone down, to the cells `now`; so many are left.
-pub record Descending (xs : List Link) (start : List Cell) (steps : ℕ) (now : List Cell) (left : ℕ) : Type 0 where
-  pub whole : (c d : Cell) → Mem c start → Leads xs steps c d → (e : Cell) × Mem e now × Leads xs left e d
-  pub sound : (e d : Cell) → Mem e now → Leads xs left e d → (c : Cell) × Mem c start × Leads xs steps c d
+-- One link down from the cells `cs` stand the cells `ds`.
+pub ends_step : (src : Source) (x m : ℕ) {cs ds : List Cell} {xs : List Link} (Q : ℕ → ℕ → ℕ → Type 0) → Spread xs cs ds → Ends src x (suc m) cs xs Q
+    → Ends src x m ds xs Q
+ends_step src x m {xs = xs} Q sp e c b i s h l =
+    let (k, mem, up, is) = sp.sound c h in
+    e (upper k) b i s up (goes k mem (subst (λ v. Leads xs m v (cell b i)) (sym is) l))
 
-pub descending_more : {xs : List Link} {start now more : List Cell} {steps left m : ℕ} → left ≡ suc m → Spread xs now more → Descending xs start steps now left
-    → Descending xs start steps more m
-descending_more {xs} {start} {now} {more} {steps} {m = m} is s p = record {
-  whole = λ c d h l. let (e, here, rest) = p.whole c d h l in down here (subst (λ v. Leads xs v e d) is rest);
-  sound = λ e d h l.
-      let (k, mem, up, low) = s.sound e h in
-      p.sound (upper k) d up (subst (λ v. Leads xs v (upper k) d) (sym is) (goes k mem (subst (λ v. Leads xs m v d) (sym low) l)));
-}
+pub ends_back : (src : Source) (x m : ℕ) {cs ds : List Cell} {xs : List Link} (Q : ℕ → ℕ → ℕ → Type 0) → Spread xs cs ds → Ends src x m ds xs Q
+    → Ends src x (suc m) cs xs Q
+ends_back src x m {cs} {xs = xs} Q sp e c b i s h l n = go h l refl
   where
-    down : {e d : Cell} → Mem e now → Leads xs (suc m) e d → (f : Cell) × Mem f more × Leads xs m f d
-    down up (goes k mem rest) = (lower k, s.whole k mem up, rest)
+    go : {c d : Cell} → Mem c cs → Leads xs (suc m) c d → d ≡ cell b i → Q s b i
+    go up (goes k mem rest) is = e (lower k) b i s (sp.whole k mem up) (subst (λ v. Leads xs m (lower k) v) is rest) n
 
 -- The cells that have their link.
 pub marked_all : (src : Source) (x : ℕ) (t : Table) (cs : List Cell) {ys : List Link} {ds : List Cell} → OfPlace (content t) t.place ys

@@ -80,30 +80,6 @@ module _ {R : Link → Option Cell → Type 0} {xs : List Link} {n : ℕ} {old n
     sound = λ c m. ⊎_elim inl (λ x. inr (at xs x.0, mem_at xs x.0 (lnk 0 0 0 0) (let q = x.1 in omega arith), x.2)) (p.sound c m);
   }
 
--- The first n cells of one set are in another.
-pub record Refilling (start : List Cell) (n : ℕ) (got : List Cell) : Type 0 where
-  pub whole : (k : ℕ) → k < n → Mem (get_or start k (cell 0 0)) got
-  pub sound : (c : Cell) → Mem c got → Mem c start
-
-pub refilling_none : (start : List Cell) {got : List Cell} → got ≡ [] → Refilling start 0 got
-refilling_none start e = record { whole = λ k lt. absurd (omega arith); sound = λ c m. elim (subst (λ v. Mem c v) e m) [ ] }
-
-module _ {start got : List Cell} {n : ℕ} (p : Refilling start n got) (lt : n < length start) where
-  pub refilling_room : (s : Cells) → cells_of s ≡ got → length start ≤ 4097 → (Mem (get_or start n (cell 0 0)) got → ⊥) → length got < 4097
-  refilling_room s is few none =
-      let m = room got start (get_or start n (cell 0 0)) (subst Once is (each_once s)) p.sound (mem_at start n (cell 0 0) lt) none in
-      omega arith
-
-  pub refilling_more : {more : List Cell} → Inserted (get_or start n (cell 0 0)) got more → Refilling start (n + 1) more
-  refilling_more {more} i = record {
-    whole = λ k h. ⊎_elim (λ (y : k < n). i.kept (get_or start k (cell 0 0)) (p.whole k y))
-        (λ (y : n ≤ k). let is : n ≡ k = omega arith in subst (λ v. Mem (get_or start v (cell 0 0)) more) is i.there) (cases_lt k n);
-    sound = λ d m. ⊎_elim (p.sound d) (λ (e : d ≡ get_or start n (cell 0 0)). subst (λ v. Mem v start) (sym e) (mem_at start n (cell 0 0) lt)) (i.sound d m);
-  }
-
-pub refilling_all : {start got : List Cell} {n : ℕ} → length start ≤ n → Refilling start n got → (c : Cell) → Mem c got ↔ Mem c start
-refilling_all {got = got} end p c = (p.sound c, λ m. let (k, lt, e) = mem_index (cell 0 0) m in subst (λ v. Mem v got) e (p.whole k (omega arith)))
-
 -- The lower ends of the links of a table.
 pub lower_room : (t : Table) {R : Link → Option Cell → Type 0} (P : Link → Type 0) → Says R P lower → {xs : List Link} {cs : List Cell}
     → ((l : Link) → Mem l xs → Mem l (content t)) → Drawn (content t) cs → Roomy R xs cs
@@ -153,9 +129,6 @@ spreading_all {cs = cs} end s = record {
       s.whole h (omega arith) l mem (sym (ap (λ (v : Cell). v.place) e)) up;
   sound = s.sound;
 }
-
-pub spread_over : {xs : List Link} {cs ds es : List Cell} → ((c : Cell) → Mem c es ↔ Mem c ds) → Spread xs cs ds → Spread xs cs es
-spread_over same s = record { whole = λ l m up. (same (lower l)).1 (s.whole l m up); sound = λ c m. s.sound c ((same c).0 m) }
 
 -- The cells of a round's states.
 pub tops : (src : Source) (t : Table) (r n : ℕ) {old new : List Cell} → get_or t.starts t.place 0 ≤ n → n ≤ t.count → Bottom src t.place r old

@@ -6,7 +6,10 @@ ghost use Rattle.link_growth.specs.Growth.{Makes, Ends, Fired, Shut};
 ghost use Rattle.links.specs.Sets.{cells_of};
 ghost use Rattle.links.specs.Tables.{content, Making, Ahead};
 
+use crate::cells::Cells;
 use crate::fault::TooManyLinks;
+use crate::firing::fire;
+use crate::levels::spread;
 use crate::links::Links;
 use crate::over::{Over, Symbol};
 use crate::seeds::Seeds;
@@ -24,28 +27,32 @@ impl Table {
     }
 }
 
-impl Links {
-    /// Adds the links by the symbol from where `steps` links lead down from the cells `here`.
-    fn descend<S: StateSource>(
-        &mut self,
-        symbol: &Symbol<'_, S>,
-        steps: u8,
-    ) -> Result<(), TooManyLinks>
-        requires { let src = S.meaning symbol.now.over.now.source.now in
-            let t = self.old.table in
-            Ends src symbol.now.x steps (cells_of self.old.here) (content t) (Makes src None t.place (content t)) }
-        ensures { let src = S.meaning symbol.now.over.now.source.now in
-            let t = self.old.table in
-            let u = self.new.table in
-            Making src None t u symbol.now.over.now.limit result
-            (Ends src symbol.now.x steps (cells_of self.old.here) (content t) (λ s b i. Has (content u) s t.place b i)) }
-    {
-        for _ in 0..steps {
-            self.spread();
-        }
-        self.fire(symbol)
+// By recursion: the two sets change places at each step. Moved or copied, they cost more than what is done with them.
+/// Adds the links by the symbol from where `steps` links lead down from the cells `here`.
+fn descend<S: StateSource>(
+    symbol: &Symbol<'_, S>,
+    table: &mut Table,
+    here: &mut Cells,
+    there: &mut Cells,
+    steps: u8,
+) -> Result<(), TooManyLinks>
+    requires { let src = S.meaning symbol.now.over.now.source.now in
+        let t = table.old in
+        Ends src symbol.now.x steps (cells_of here.old) (content t) (Makes src None t.place (content t)) }
+    ensures { let src = S.meaning symbol.now.over.now.source.now in
+        let t = table.old in
+        let u = table.new in
+        Making src None t u symbol.now.over.now.limit result
+        (Ends src symbol.now.x steps (cells_of here.old) (content t) (λ s b i. Has (content u) s t.place b i)) }
+{
+    if steps == 0 {
+        return fire(symbol, table, here, there);
     }
+    spread(table, here, there);
+    descend(symbol, table, there, here, steps - 1)
+}
 
+impl Links {
     /// All reductions of a rule, over the chains that have a link from `from` on: those of the links before are made already.
     fn reduce<S: StateSource>(
         &mut self,
@@ -72,10 +79,16 @@ impl Links {
         };
         if length == 0 {
             seeds.tops(&mut self.here);
-            return self.fire(&symbol);
+            return fire(&symbol, &mut self.table, &mut self.here, &mut self.there);
         }
         seeds.below(&mut self.here);
-        self.descend(&symbol, length - 1)
+        descend(
+            &symbol,
+            &mut self.table,
+            &mut self.here,
+            &mut self.there,
+            length - 1,
+        )
     }
 
     /// The reductions of all rules.

@@ -7,14 +7,12 @@ ghost use Rattle.links.specs.Tables.{content, Making, Marked};
 
 use crate::cells::Cells;
 use crate::fault::TooManyLinks;
-use crate::links::Links;
 use crate::over::Symbol;
 use crate::sets::lower_of;
 use crate::table::Table;
 use link_growth::Link;
 use states::StateSource;
 
-// The fields and not `Links`, here and in `scan`: two of them are lent while the third changes.
 /// Makes `there` the cells of `here` that have their link by the symbol at the last place already.
 fn mark_linked<S: StateSource>(
     symbol: &Symbol<'_, S>,
@@ -35,41 +33,41 @@ fn mark_linked<S: StateSource>(
     });
 }
 
-impl Links {
-    /// Adds the links by the symbol from the cells `here`. The links of the last place are looked through once, for all cells together.
-    pub(crate) fn fire<S: StateSource>(
-        &mut self,
-        symbol: &Symbol<'_, S>,
-    ) -> Result<(), TooManyLinks>
-        requires { let src = S.meaning symbol.now.over.now.source.now in
-            let t = self.old.table in
-            Ends src symbol.now.x 0 (cells_of self.old.here) (content t) (Makes src None t.place (content t)) }
-        ensures { let src = S.meaning symbol.now.over.now.source.now in
-            let t = self.old.table in
-            let u = self.new.table in
-            Making src None t u symbol.now.over.now.limit result
-            (Ends src symbol.now.x 0 (cells_of self.old.here) (content t) (λ s b i. Has (content u) s t.place b i)) }
-    {
-        if self.here.list.is_empty() {
-            return Ok(());
-        }
-        mark_linked(symbol, &self.table, &self.here, &mut self.there);
-        let over = symbol.over;
-        while let Some(c) = self.here.pop() {
-            if self.there.has(c) {
-                continue;
-            }
-            let Some(state) = over.source.next(c.state, symbol.x) else {
-                continue;
-            };
-            let link = Link {
-                state,
-                place: self.table.place,
-                below: c.state,
-                below_place: c.place,
-            };
-            self.table.push(link, over.limit)?;
-        }
-        Ok(())
+/// Adds the links by the symbol from the cells `here`. The links of the last place are looked through once, for all cells together.
+pub(crate) fn fire<S: StateSource>(
+    symbol: &Symbol<'_, S>,
+    table: &mut Table,
+    here: &mut Cells,
+    there: &mut Cells,
+) -> Result<(), TooManyLinks>
+    requires { let src = S.meaning symbol.now.over.now.source.now in
+        let t = table.old in
+        Ends src symbol.now.x 0 (cells_of here.old) (content t) (Makes src None t.place (content t)) }
+    ensures { let src = S.meaning symbol.now.over.now.source.now in
+        let t = table.old in
+        let u = table.new in
+        Making src None t u symbol.now.over.now.limit result
+        (Ends src symbol.now.x 0 (cells_of here.old) (content t) (λ s b i. Has (content u) s t.place b i)) }
+{
+    if here.list.is_empty() {
+        return Ok(());
     }
+    mark_linked(symbol, table, here, there);
+    let over = symbol.over;
+    while let Some(c) = here.pop() {
+        if there.has(c) {
+            continue;
+        }
+        let Some(state) = over.source.next(c.state, symbol.x) else {
+            continue;
+        };
+        let link = Link {
+            state,
+            place: table.place,
+            below: c.state,
+            below_place: c.place,
+        };
+        table.push(link, over.limit)?;
+    }
+    Ok(())
 }

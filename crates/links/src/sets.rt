@@ -101,16 +101,6 @@ impl Cells {
         while self.pop().is_some() {}
     }
 
-    /// Takes all cells out, and those of another set in.
-    pub(crate) fn refill(&mut self, from: &Cells)
-        ensures { (c : SomeCell) → Mem c (cells_of self.new) ↔ Mem c (cells_of from.now) }
-    {
-        self.clear();
-        for c in from.list.as_slice() {
-            self.insert(*c);
-        }
-    }
-
     /// Adds the cells that are picked from the links.
     pub(crate) fn collect<F: Fn(&Link) -> Option<Cell>>(&mut self, links: &[Link], pick: F)
         requires calls { F.IsAlwaysCallable pick }

@@ -31,7 +31,7 @@ pub returns-then-length-eq0 : goal.returns-then-length-eq0
 returns-then-length-eq0 g c =
     let src = g.S.StateSource.meaning c.args.over.now.source.now in
     let t = c.args.self.now.table in
-    let v = c.fire.new.self.table in
+    let v = c.fire.new.table in
     let left = left_known src c.requires.rule c.from.ensures c.left-x.ensures in
     let size = size_known src c.requires.rule c.from-2.ensures c.length-length.ensures in
     let laid = laid_from t c.args.from c.requires.ahead.since c.requires.ahead.until in (
@@ -58,7 +58,7 @@ pub returns : goal.returns
 returns g c =
     let src = g.S.StateSource.meaning c.args.over.now.source.now in
     let t = c.args.self.now.table in
-    let v = c.descend.new.self.table in
+    let v = c.descend.new.table in
     let m = c.length-length.result - 1 in
     let left = left_known src c.requires.rule c.from.ensures c.left-x.ensures in
     let size = size_known src c.requires.rule c.from-2.ensures c.length-length.ensures in
